@@ -1,0 +1,5 @@
+pub mod Choice
+pub mod Copy
+pub mod Offsets
+pub mod Table
+pub mod Written
