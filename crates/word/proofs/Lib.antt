@@ -1,0 +1,4 @@
+pub mod Bytes
+pub mod Part
+pub mod Rotation
+pub mod Sums
