@@ -1,0 +1,3 @@
+pub mod Examples
+pub mod Rounds
+pub mod Schedule
