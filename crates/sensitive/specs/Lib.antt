@@ -1,0 +1,3 @@
+pub mod Ansi
+pub mod Utf16
+pub mod Utf8
