@@ -1,0 +1,93 @@
+-- The table under swaps, and one step more of the key mixing and of the keystream, as the code takes them.
+-- The two entries that a step adds have the same sum before and after their swap.
+-- Assumes nothing.
+use mathlib.Core.Path.{_≡_, refl, sym, ap, _∙_}
+use mathlib.Core.List.{List}
+use mathlib.Core.Bool.{true, false}
+use Prim.Native.Nat.{ℕ, zero, suc, _+_, _%_, _≤_, _<_, min}
+use native.Mathlib.Nat.{add-comm, add-zero, add-suc, mod-eq-of-lt}
+use native.Mathlib.Numerals.{add-one}
+use native.Mathlib.Omega.{arith}
+use lib.ListN.{length, getD, set, length-set}
+use lib.Seq.{getD-set-same, getD-set-other}
+use Rattle.laws.proofs.Choice.{same-or, stop, skip, within-yes, within-low, within-high}
+use Rattle.laws.proofs.Written.{Written, written-all}
+use Rattle.rc4.specs.declared.Keystream.{Keystream}
+use Rattle.rc4.specs.Rc4.{identity, swap, mix, mixing, keyed, made, next, given, after, byteFrom, applied, Applies}
+
+pub length-swap : (t : List ℕ) (i j : ℕ) → length (swap t i j) ≡ length t
+unfolding swap
+length-swap t i j = simp length-set
+
+module _ (t : List ℕ) (i j : ℕ) (hi : i < length t) (hj : j < length t) where
+  at-j : getD (swap t i j) j 0 ≡ getD t i 0
+  unfolding swap
+  at-j = getD-set-same (set t i (getD t j 0)) j (getD t i 0) 0 (rw length-set hj)
+
+  at-i : getD (swap t i j) i 0 ≡ getD t j 0
+  unfolding swap
+  at-i =
+      same-or i j
+      (λ e. let s : getD (swap t i j) i 0 ≡ getD t i 0 = ap (λ (n : ℕ). getD (swap t i j) n 0) e ∙ at-j in s ∙ ap (λ (n : ℕ). getD t n 0) e)
+      (λ e. getD-set-other (set t i (getD t j 0)) j i (getD t i 0) 0 e ∙ getD-set-same t i (getD t j 0) 0 hi)
+
+  swap-sum : getD (swap t i j) i 0 + getD (swap t i j) j 0 ≡ getD t i 0 + getD t j 0
+  swap-sum = rw (at-i, at-j) (add-comm (getD t j 0) (getD t i 0))
+
+-- the key mixing
+pub mixing-none : (key : List ℕ) → record { table = identity; j = 0 } ≡ mixing key 0
+unfolding mixing
+mixing-none key = refl
+
+pub mixing-more : (key t : List ℕ) (i j j′ : ℕ) → record { table = t; j = j } ≡ mixing key i → j′ ≡ (j + getD t i 0 + getD key (i % length key) 0) % 256
+    → record { table = set (set t i (getD t j′ 0)) j′ (getD t i 0); j = j′ } ≡ mixing key (i + 1)
+unfolding mixing mix swap
+mixing-more key t i j j′ e g = rw (add-one i, ← e, g)
+
+-- the keystream
+pub after-none : (k : Keystream) → k ≡ after k 0
+unfolding after
+after-none k = refl
+
+module _ (k : Keystream) (t : List ℕ) (i j n i′ j′ : ℕ) (e : record { table = t; i = i; j = j } ≡ after k n) (gi : i′ ≡ (i + 1) % 256) (gj : j′ ≡ (j + getD t i′ 0) % 256) where
+  pub after-more : record { table = set (set t i′ (getD t j′ 0)) j′ (getD t i′ 0); i = i′; j = j′ } ≡ after k (n + 1)
+  unfolding after next swap
+  after-more = rw (add-one n, ← e, gj, gi)
+
+  pub byte-more : i′ < length t → j′ < length t → getD (set (set t i′ (getD t j′ 0)) j′ (getD t i′ 0)) ((getD t i′ 0 + getD t j′ 0) % 256) 0 ≡ byteFrom k n
+  unfolding byteFrom given swap
+  byte-more hi hj = ap (λ (s : ℕ). getD (swap t i′ j′) (s % 256) 0) (sym (swap-sum t i′ j′ hi hj)) ∙ ap given (after-more ∙ ap (after k) (add-one n))
+
+-- what the loop over the bytes leaves
+pub applies : (k k₀ : Keystream) (s d t d′ : List ℕ) (i j n m : ℕ) → k₀ ≡ k → m ≡ min (length s) (length d) → n ≡ m → i < 256 → j < 256
+    → record { table = t; i = i; j = j } ≡ after k₀ n → Written (applied k₀ s) 0 n d d′ → Applies k s d (record { table = t; i = i % 256; j = j % 256 }) d′
+applies k k₀ s d t d′ i j n m s₀ em en hi hj e w =
+    let q : n ≡ min (length s) (length d) = en ∙ em in
+    let le : n ≤ length d = omega arith in
+    record {
+      keystream = rw (mod-eq-of-lt hi, mod-eq-of-lt hj) (e ∙ rw (s₀, q));
+      bytes = written-all (applied k₀ s) n d d′ le w ∙ rw (s₀, q);
+    }
+
+-- what making a keystream answers, by the key's length
+pub made-short : (key : List ℕ) → length key < 5 → record { ok = false; keystream = record { table = identity; i = 0; j = 0 } } ≡ made key
+unfolding made
+made-short key h = skip _ (within-low 5 16 (length key) h) refl
+
+pub made-long : (key : List ℕ) → 16 < length key → record { ok = false; keystream = record { table = identity; i = 0; j = 0 } } ≡ made key
+unfolding made
+made-long key h = skip _ (within-high 5 16 (length key) h) refl
+
+pub made-keyed : (key : List ℕ) → 5 ≤ length key → length key ≤ 16 → record { ok = true; keystream = record { table = mixing key 256 .table; i = 0; j = 0 } } ≡ made key
+unfolding made keyed
+made-keyed key g h = stop _ (within-yes 5 16 (length key) g h)
+
+-- a keystream that is taken up again where it stopped goes on as if unbroken
+pub after-after : (k : Keystream) (m n : ℕ) → after (after k m) n ≡ after k (m + n)
+unfolding after
+after-after k m zero = rw add-zero
+after-after k m (suc n) = ap next (after-after k m n) ∙ ap (after k) (sym (add-suc m n))
+
+pub byte-resumed : (k : Keystream) (m n : ℕ) → byteFrom (after k m) n ≡ byteFrom k (m + n)
+unfolding byteFrom
+byte-resumed k m n = ap given (after-after k m (suc n) ∙ ap (after k) (add-suc m n))

@@ -1,0 +1,130 @@
+// The RC4 keystream: from the Rust source's rc4.rs, its `Keystream`. The source takes the cipher from a
+// library; this is written from document 01 and held against RFC 6229.
+ghost use mathlib.Core.Path.{_≡_};
+ghost use Prim.Native.Nat.{_%_, _<_, min};
+ghost use lib.ListN.{length};
+ghost use Rattle.rc4.specs.Rc4.{identity, mixing, made, Applies};
+
+// A keystream under one key: the table, and the two indices into it.
+pub struct Keystream {
+    pub table: [u8; 256],
+    pub i: u8,
+    pub j: u8,
+}
+
+// What came of making a keystream: ok says whether there is one.
+pub struct Made {
+    pub ok: bool,
+    pub keystream: Keystream,
+}
+
+fn wide(x: u8) -> usize
+    ensures { λ r. ⌜ (r ≡ x) × (r < 256) ⌝ }
+{
+    x as usize
+}
+
+fn least(a: usize, b: usize) -> usize
+    ensures { λ r. ⌜ r ≡ min a b ⌝ }
+{
+    if a < b { a } else { b }
+}
+
+// The table before the key is mixed in.
+fn unmixed() -> [u8; 256]
+    ensures { λ r. ⌜ r ≡ identity ⌝ }
+{
+    let mut t = [0u8; 256];
+    let mut i = 0;
+    while i < 256 {
+        t[i] = (i % 256) as u8;
+        i += 1;
+    }
+    t
+}
+
+// Which byte of a key goes with an index of the table.
+fn key_index(i: usize, len: usize) -> usize
+    requires { ⌜ 0 < len ⌝ }
+    ensures { λ r. ⌜ r ≡ i % len ⌝ }
+{
+    i % len
+}
+
+// The table with the key mixed in.
+fn mixed(key: &[u8]) -> [u8; 256]
+    requires { ⌜ 0 < length (now key) ⌝ }
+    ensures { λ r. ⌜ r ≡ mixing (now (key .entry)) 256 .table ⌝ }
+{
+    let mut t = unmixed();
+    let mut i = 0;
+    let mut j = 0;
+    while i < 256 {
+        let a = t[i];
+        j = (j + wide(a) + wide(key[key_index(i, key.len())])) % 256;
+        t[i] = t[j];
+        t[j] = a;
+        i += 1;
+    }
+    t
+}
+
+impl Keystream {
+    // The least and the greatest length of a key.
+    pub const MIN_KEY_LEN: usize = 5;
+
+    pub const MAX_KEY_LEN: usize = 16;
+
+    // The keystream of a key of 5 to 16 bytes, from its first byte on.
+    pub fn new(key: &[u8]) -> Made
+        ensures { λ r. ⌜ r ≡ made (now (key .entry)) ⌝ }
+    {
+        if key.len() < Keystream::MIN_KEY_LEN {
+            let table = unmixed();
+            return Made {
+                ok: false,
+                keystream: Keystream { table, i: 0, j: 0 },
+            };
+        }
+        if Keystream::MAX_KEY_LEN < key.len() {
+            let table = unmixed();
+            return Made {
+                ok: false,
+                keystream: Keystream { table, i: 0, j: 0 },
+            };
+        }
+        let table = mixed(key);
+        Made {
+            ok: true,
+            keystream: Keystream { table, i: 0, j: 0 },
+        }
+    }
+
+    // The bytes of src, exclusive-or the keystream, into dst, as many as both have room for. Gives
+    // back the keystream that goes on behind them.
+    pub fn apply(self, src: &[u8], dst: &mut [u8]) -> Keystream
+        ensures { λ r. ⌜ Applies self (now (src .entry)) (now (dst .entry)) r (now (dst .exit)) ⌝ }
+    {
+        let n = least(src.len(), dst.len());
+        let mut t = self.table;
+        let mut i = wide(self.i);
+        let mut j = wide(self.j);
+        let mut k = 0;
+        while k < n {
+            i = (i + 1) % 256;
+            let a = t[i];
+            j = (j + wide(a)) % 256;
+            let b = t[j];
+            t[i] = b;
+            t[j] = a;
+            let at = (wide(a) + wide(b)) % 256;
+            dst[k] = src[k] ^ t[at];
+            k += 1;
+        }
+        Keystream {
+            table: t,
+            i: (i % 256) as u8,
+            j: (j % 256) as u8,
+        }
+    }
+}
