@@ -1,0 +1,309 @@
+// XOR obfuscation, Method 1 (MS-OFFCRYPTO 2.3.7.1 to 2.3.7.3): from the Rust source's
+// xor_obfuscation.rs, with its names and tables.
+ghost use mathlib.Core.Path.{_≡_};
+ghost use mathlib.Core.List.{_++_};
+ghost use Prim.Native.Nat.{ℕ, _+_, _-_, _*_, _/_, _%_, _^_, _≤_, _<_, min};
+ghost use lib.Bits.{bitXor};
+ghost use lib.Dec.{eqb};
+ghost use lib.ListN.{length, getD, drop};
+ghost use Rattle.laws.specs.Choice.{pick};
+ghost use Rattle.laws.specs.Offsets.{tabulate};
+ghost use Rattle.xor_obfuscation.specs.Xor.{padArray, initialCode, xorMatrix, verifierStep, passwordVerifier, charBits, keyOf, xorArray, Deciphers};
+
+// PadArray, InitialCode and XorMatrix of MS-OFFCRYPTO 2.3.7.2.
+pub const PAD_ARRAY: [u8; 15] = [
+    0xBB,
+    0xFF,
+    0xFF,
+    0xBA,
+    0xFF,
+    0xFF,
+    0xB9,
+    0x80,
+    0x00,
+    0xBE,
+    0x0F,
+    0x00,
+    0xBF,
+    0x0F,
+    0x00,
+];
+
+pub const INITIAL_CODE: [u16; 15] = [
+    0xE1F0,
+    0x1D0F,
+    0xCC9C,
+    0x84C0,
+    0x110C,
+    0x0E10,
+    0xF1CE,
+    0x313E,
+    0x1872,
+    0xE139,
+    0xD40F,
+    0x84F9,
+    0x280C,
+    0xA96A,
+    0x4EC3,
+];
+
+pub const XOR_MATRIX: [u16; 105] = [
+    0xAEFC,
+    0x4DD9,
+    0x9BB2,
+    0x2745,
+    0x4E8A,
+    0x9D14,
+    0x2A09,
+    0x7B61,
+    0xF6C2,
+    0xFDA5,
+    0xEB6B,
+    0xC6F7,
+    0x9DCF,
+    0x2BBF,
+    0x4563,
+    0x8AC6,
+    0x05AD,
+    0x0B5A,
+    0x16B4,
+    0x2D68,
+    0x5AD0,
+    0x0375,
+    0x06EA,
+    0x0DD4,
+    0x1BA8,
+    0x3750,
+    0x6EA0,
+    0xDD40,
+    0xD849,
+    0xA0B3,
+    0x5147,
+    0xA28E,
+    0x553D,
+    0xAA7A,
+    0x44D5,
+    0x6F45,
+    0xDE8A,
+    0xAD35,
+    0x4A4B,
+    0x9496,
+    0x390D,
+    0x721A,
+    0xEB23,
+    0xC667,
+    0x9CEF,
+    0x29FF,
+    0x53FE,
+    0xA7FC,
+    0x5FD9,
+    0x47D3,
+    0x8FA6,
+    0x0F6D,
+    0x1EDA,
+    0x3DB4,
+    0x7B68,
+    0xF6D0,
+    0xB861,
+    0x60E3,
+    0xC1C6,
+    0x93AD,
+    0x377B,
+    0x6EF6,
+    0xDDEC,
+    0x45A0,
+    0x8B40,
+    0x06A1,
+    0x0D42,
+    0x1A84,
+    0x3508,
+    0x6A10,
+    0xAA51,
+    0x4483,
+    0x8906,
+    0x022D,
+    0x045A,
+    0x08B4,
+    0x1168,
+    0x76B4,
+    0xED68,
+    0xCAF1,
+    0x85C3,
+    0x1BA7,
+    0x374E,
+    0x6E9C,
+    0x3730,
+    0x6E60,
+    0xDCC0,
+    0xA9A1,
+    0x4363,
+    0x86C6,
+    0x1DAD,
+    0x3331,
+    0x6662,
+    0xCCC4,
+    0x89A9,
+    0x0373,
+    0x06E6,
+    0x0DCC,
+    0x1021,
+    0x2042,
+    0x4084,
+    0x8108,
+    0x1231,
+    0x2462,
+    0x48C4,
+];
+
+// The key of a password: there is one for 1 to 15 bytes.
+pub enum XorKey {
+    Key(u16),
+    NoKey,
+}
+
+fn least(a: usize, b: usize) -> usize
+    ensures { λ r. ⌜ r ≡ min a b ⌝ }
+{
+    if a < b { a } else { b }
+}
+
+// An entry of the matrix.
+fn matrix(n: usize) -> u16
+    requires { ⌜ n < 105 ⌝ }
+    ensures { λ r. ⌜ r ≡ getD xorMatrix n 0 ⌝ }
+{
+    XOR_MATRIX[n]
+}
+
+// An entry of the initial codes.
+fn initial(n: usize) -> u16
+    requires { ⌜ n < 15 ⌝ }
+    ensures { λ r. ⌜ r ≡ getD initialCode n 0 ⌝ }
+{
+    INITIAL_CODE[n]
+}
+
+// An entry of the padding, 0 past its end.
+fn pad(n: usize) -> u8
+    ensures { λ r. ⌜ r ≡ getD padArray n 0 ⌝ }
+{
+    if n < 15 { PAD_ARRAY[n] } else { 0 }
+}
+
+// The verifier with one byte more of the password array.
+fn verifier_step(v: u16, b: u8) -> u16
+    ensures { λ r. ⌜ r ≡ verifierStep v b ⌝ }
+{
+    let intermediate1 = v / 0x4000 % 2;
+    let intermediate2 = (v << 1) % 0x8000;
+    (intermediate1 | intermediate2) ^ (b as u16)
+}
+
+// CreatePasswordVerifier_Method1: the verifier that a workbook keeps.
+pub fn password_verifier(password: &[u8]) -> u16
+    ensures { λ r. ⌜ r ≡ passwordVerifier (now (password .entry)) ⌝ }
+{
+    let mut v = 0;
+    let mut n = password.len();
+    while 0 < n {
+        n -= 1;
+        v = verifier_step(v, password[n]);
+    }
+    let len_byte = least(password.len(), 255) as u8;
+    verifier_step(v, len_byte) ^ 0xCE4B
+}
+
+// The key with a matrix entry, where the bit is 1.
+fn toggled(key: u16, bit: u8, entry: u16) -> u16
+    ensures { λ r. ⌜ r ≡ pick (eqb bit 1) (bitXor key entry) key ⌝ }
+{
+    if bit == 1 { key ^ entry } else { key }
+}
+
+// The key with one character more: its seven bits against the matrix from an element down.
+fn char_key(key: u16, c: u8, element: usize) -> u16
+    requires { ⌜ (6 ≤ element) × (element < 105) ⌝ }
+    ensures { λ r. ⌜ r ≡ charBits c element key 7 ⌝ }
+{
+    let mut key = key;
+    let mut n = 0;
+    while n < 7 {
+        let bit = (c >> (6 - n)) % 2;
+        key = toggled(key, bit, matrix(element - n));
+        n += 1;
+    }
+    key
+}
+
+// CreateXorKey_Method1.
+pub fn xor_key(password: &[u8]) -> XorKey
+    ensures { λ r. ⌜ r ≡ keyOf (now (password .entry)) ⌝ }
+{
+    let len = password.len();
+    if len < 1 {
+        return XorKey::NoKey;
+    }
+    if limits::XOR_PASSWORD_MAX_LEN < len {
+        return XorKey::NoKey;
+    }
+    let mut key = initial(len - 1);
+    let mut element = 0x68;
+    let mut n = len;
+    while 1 < n {
+        n -= 1;
+        key = char_key(key, password[n], element);
+        element -= 7;
+    }
+    XorKey::Key(char_key(key, password[0], element))
+}
+
+// The byte of the password, or of the padding behind it, at a place.
+fn source(password: &[u8], i: usize) -> u8
+    ensures { λ r. ⌜ r ≡ getD (now (password .entry) ++ padArray) i 0 ⌝ }
+{
+    if i < password.len() {
+        password[i]
+    } else {
+        pad(i - password.len())
+    }
+}
+
+// The half of the key for a place: the high byte at odd ones, the low byte at even ones.
+fn half(key: u16, i: usize) -> u8
+    ensures { λ r. ⌜ r ≡ pick (eqb (i % 2) 1) (key / 2 ^ 8 % 2 ^ 8) (key % 2 ^ 8) ⌝ }
+{
+    if i % 2 == 1 {
+        (key / 256 % 256) as u8
+    } else {
+        (key % 256) as u8
+    }
+}
+
+// CreateXorArray_Method1, for a password and its key.
+pub fn xor_array(password: &[u8], key: u16) -> [u8; 16]
+    ensures { λ r. ⌜ r ≡ xorArray (now (password .entry)) key ⌝ }
+{
+    let mut array = [0u8; 16];
+    let mut i = 0;
+    while i < 16 {
+        let x = source(password, i) ^ half(key, i);
+        array[i] = word::rotate_right_u8(x, 1);
+        i += 1;
+    }
+    array
+}
+
+// DecryptData_Method1: the bytes of src, deciphered from an index of the array on, into dst, as many
+// as both have room for.
+pub fn decrypt(array: &[u8; 16], index: usize, src: &[u8], dst: &mut [u8])
+    ensures { λ _. ⌜ Deciphers (now (array .entry)) index (now (src .entry)) (now (dst .entry)) (now (dst .exit)) ⌝ }
+{
+    let n = least(src.len(), dst.len());
+    let start = index % 16;
+    let mut k = 0;
+    while k < n {
+        let x = src[k] ^ array[(start + k) % 16];
+        dst[k] = word::rotate_right_u8(x, 5);
+        k += 1;
+    }
+}
