@@ -1,0 +1,116 @@
+/* Times the proved hashes and RC4 beside plain C and OpenSSL, in one run, on the same bytes. Each figure is the best of several rounds in
+   which the candidates take turns. What they compute is compared first. */
+#include <openssl/md5.h>
+#include <openssl/rc4.h>
+#include <openssl/sha.h>
+#include <stdbool.h>
+#include <stddef.h>
+#include <stdint.h>
+#include <stdio.h>
+#include <stdlib.h>
+#include <string.h>
+#include <time.h>
+
+void bench_sha1(const uint8_t *m, size_t len, uint8_t out[20]);
+void bench_md5(const uint8_t *m, size_t len, uint8_t out[16]);
+bool bench_rc4(const uint8_t *key, size_t key_len, const uint8_t *src, size_t src_len, uint8_t *dst, size_t dst_len);
+
+#define PLAIN(p) \
+    void p##sha1(const uint8_t *m, size_t len, uint8_t out[20]); \
+    void p##md5(const uint8_t *m, size_t len, uint8_t out[16]); \
+    void p##rc4(const uint8_t *key, size_t key_len, const uint8_t *src, uint8_t *dst, size_t len);
+PLAIN(gcc_)
+PLAIN(llvm_)
+
+enum { SIZE = 16 << 20, ROUNDS = 9, SHORT = 24, SHORTS = 1 << 17 };
+static uint8_t *data, *out[4], digest[4][20];
+static const uint8_t key[16] = "a key of sixteen";
+
+static double now(void)
+{
+    struct timespec t;
+    clock_gettime(CLOCK_MONOTONIC, &t);
+    return t.tv_sec + t.tv_nsec * 1e-9;
+}
+
+static void sha1_by(int who, const uint8_t *m, size_t len)
+{
+    switch (who) {
+    case 0: bench_sha1(m, len, digest[0]); break;
+    case 1: llvm_sha1(m, len, digest[1]); break;
+    case 2: gcc_sha1(m, len, digest[2]); break;
+    default: SHA1(m, len, digest[3]); break;
+    }
+}
+
+static void md5_by(int who, const uint8_t *m, size_t len)
+{
+    switch (who) {
+    case 0: bench_md5(m, len, digest[0]); break;
+    case 1: llvm_md5(m, len, digest[1]); break;
+    case 2: gcc_md5(m, len, digest[2]); break;
+    default: MD5(m, len, digest[3]); break;
+    }
+}
+
+static void rc4_by(int who, const uint8_t *m, size_t len)
+{
+    RC4_KEY state;
+    switch (who) {
+    case 0: bench_rc4(key, 16, m, len, out[0], len); break;
+    case 1: llvm_rc4(key, 16, m, out[1], len); break;
+    case 2: gcc_rc4(key, 16, m, out[2], len); break;
+    default: RC4_set_key(&state, 16, key); RC4(&state, len, m, out[3]); break;
+    }
+}
+
+static void sha1_short(int who, const uint8_t *m, size_t len)
+{
+    for (size_t i = 0; i < len; i += SHORT)
+        sha1_by(who, m + i, SHORT);
+}
+
+static void md5_short(int who, const uint8_t *m, size_t len)
+{
+    for (size_t i = 0; i < len; i += SHORT)
+        md5_by(who, m + i, SHORT);
+}
+
+static void run(const char *name, void (*by)(int, const uint8_t *, size_t), size_t len, int compared)
+{
+    double best[4] = {1e9, 1e9, 1e9, 1e9};
+    for (int round = 0; round < ROUNDS; round++)
+        for (int who = 0; who < 4; who++) {
+            double t = now();
+            by(who, data, len);
+            t = now() - t;
+            if (t < best[who])
+                best[who] = t;
+        }
+    for (int who = 1; who < 4; who++)
+        if (compared < 0 ? memcmp(out[0], out[who], len) : memcmp(digest[0], digest[who], compared)) {
+            printf("%s: candidate %d computes something else\n", name, who);
+            exit(1);
+        }
+    printf("%-28s %7.0f MB/s   %.2f of plain C by the same LLVM   %.2f of gcc -O3   %.2f of OpenSSL\n", name, len / best[0] / 1e6, best[1] / best[0], best[2] / best[0], best[3] / best[0]);
+}
+
+int main(void)
+{
+    data = malloc(SIZE);
+    for (int i = 0; i < 4; i++)
+        out[i] = malloc(SIZE);
+    uint64_t x = 88172645463325252u;
+    for (size_t i = 0; i < SIZE; i++) {
+        x ^= x << 13; x ^= x >> 7; x ^= x << 17;
+        data[i] = (uint8_t)x;
+    }
+    for (int i = 0; i < 4; i++)
+        memset(out[i], 0, SIZE);
+    run("SHA-1, 16 MiB", sha1_by, SIZE, 20);
+    run("SHA-1, messages of 24 bytes", sha1_short, (size_t)SHORT * SHORTS, 20);
+    run("MD5, 16 MiB", md5_by, SIZE, 16);
+    run("MD5, messages of 24 bytes", md5_short, (size_t)SHORT * SHORTS, 16);
+    run("RC4, one stream of 16 MiB", rc4_by, SIZE, -1);
+    return 0;
+}
