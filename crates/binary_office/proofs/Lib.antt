@@ -1,0 +1,4 @@
+pub mod Headers
+pub mod Locks
+pub mod ShortBooks
+pub mod Walks

@@ -1,0 +1,210 @@
+-- The lock's facts and the scan, by the tests on the way; and Same lock: it is symmetric, and true of a stream and itself exactly where its look says yes.
+-- Assumes nothing.
+use mathlib.Core.Path.{_≡_, refl, sym, ap, _∙_}
+use mathlib.Core.Bool.{Bool, true, false, not, _&&_, Bool·beq}
+use mathlib.Core.List.{List}
+use Prim.Native.Nat.{ℕ, zero, suc, _+_, _-_, _≤_, _<_, min}
+use native.Mathlib.Nat.{le-refl, sub-zero, zero-add}
+use native.Mathlib.Omega.{arith}
+use lib.Dec.{eqb, leb}
+use lib.ListN.{length, take, drop, length-drop}
+use lib.Seq.{take-all}
+use borrow.Author.Tests.{eq-eqb, ne-eqb, le-leb, lt-leb}
+use Rattle.laws.specs.Choice.{pick, within}
+use Rattle.laws.proofs.Choice.{stop, skip, either, same-or}
+use Rattle.binary_office.specs.declared.Field16.the-variants as two
+use Rattle.binary_office.specs.declared.Field32.the-variants as four
+use Rattle.binary_office.specs.declared.Version.{Version}
+use Rattle.binary_office.specs.declared.Version.the-variants.{Pair, NoVersion}
+use Rattle.binary_office.specs.declared.KeySize.{KeySize}
+use Rattle.binary_office.specs.declared.KeySize.the-variants.{Bits, NoSize}
+use Rattle.binary_office.specs.declared.Facts.{Facts}
+use Rattle.binary_office.specs.Fields.{le16At, le32At}
+use Rattle.binary_office.specs.Walk.{neverEncrypted}
+use Rattle.binary_office.specs.declared.Field16.{Field16}
+use Rattle.binary_office.specs.declared.Verdict.{Verdict}
+use Rattle.binary_office.specs.declared.Verdict.the-variants.{Yes, No, Unknown}
+use Rattle.binary_office.specs.Look.{versionOf, sizeOf, factsOf, judged, scanByLength, scanById, scanFrom, scanAt, look, sameVersion, sameSize, sameFacts, sameVerdict, sameLock}
+
+module _ (body : List ℕ) where
+  -- the key size of a version
+  module _ (v : Version) (major minor : ℕ) (e : v ≡ Pair major minor) where
+    pub size-other : (within 2 4 major && eqb minor 2) ≡ false → NoSize ≡ sizeOf body v
+    size-other t = rw e (skip _ t refl)
+
+    module _ (t : (within 2 4 major && eqb minor 2) ≡ true) where
+      pub size-short : four.Short ≡ le32At body 30 → NoSize ≡ sizeOf body v
+      size-short g = rw (e, ← g) (stop _ t)
+
+      pub size-bits : (k : ℕ) → four.Value k ≡ le32At body 30 → within 1 4096 k ≡ true → Bits k ≡ sizeOf body v
+      size-bits k g h = rw (e, ← g) (stop _ h ∙ stop _ t)
+
+      pub size-out : (k : ℕ) → four.Value k ≡ le32At body 30 → within 1 4096 k ≡ false → NoSize ≡ sizeOf body v
+      size-out k g h = rw (e, ← g) (skip _ h refl ∙ stop _ t)
+
+  -- the facts, by the body's type
+  pub facts-short : two.Short ≡ le16At body 0 → record { xor = false; version = NoVersion; «key_size» = NoSize } ≡ factsOf body
+  unfolding factsOf
+  facts-short g = rw (← g)
+
+  pub facts-xor : (t : ℕ) → two.Value t ≡ le16At body 0 → t ≡ 0 → record { xor = true; version = NoVersion; «key_size» = NoSize } ≡ factsOf body
+  unfolding factsOf
+  facts-xor t g h = rw (← g) (stop _ (eq-eqb t 0 h))
+
+  pub facts-other : (t : ℕ) (v : Version) (k : KeySize) → two.Value t ≡ le16At body 0 → (t ≡ 0 → ⊥) → v ≡ versionOf body → k ≡ sizeOf body v
+      → record { xor = false; version = v; «key_size» = k } ≡ factsOf body
+  unfolding factsOf
+  facts-other t v k g h e d = rw (← g) (skip _ (ne-eqb t 0 h) (rw (d, e)))
+
+-- the scan, header by header
+module _ (s : List ℕ) where
+  no-fuel : (at : ℕ) → at ≤ length s → length s < 0 + at → ⊥
+  no-fuel at h k = omega arith
+
+  -- any fuel that is enough gives the same: the next scan is asked only within the stream
+  enough : (f g at : ℕ) → at ≤ length s → length s < f + at → length s < g + at → scanFrom f s at ≡ scanFrom g s at
+  unfolding scanFrom pick
+  enough zero g at h k l = absurd (no-fuel at h k)
+  enough (suc f) zero at h k l = absurd (no-fuel at h l)
+  enough (suc f) (suc g) at h k l = by-id (le16At s at) (λ n m p q. enough f g n m p q)
+    where
+      by-len : (id : ℕ) (w : Field16) → ((n : ℕ) → n ≤ length s → length s < f + n → length s < g + n → scanFrom f s n ≡ scanFrom g s n)
+          → scanByLength s at id (scanFrom f s) w ≡ scanByLength s at id (scanFrom g s) w
+      by-len id two.Short again = refl
+      by-len id (two.Value len) again =
+          either (at + 4 + len) (length s)
+          (λ m. ap (λ (v : Verdict). judged s at id len (λ (n : ℕ). v)) (again (at + 4 + len) m (omega arith) (omega arith)))
+          (λ m. rw (lt-leb (at + 4 + len) (length s) m, pick))
+
+      by-id : (w : Field16) → ((n : ℕ) → n ≤ length s → length s < f + n → length s < g + n → scanFrom f s n ≡ scanFrom g s n)
+          → scanById s at (scanFrom f s) w ≡ scanById s at (scanFrom g s) w
+      by-id two.Short again = refl
+      by-id (two.Value id) again = by-len id (le16At s (at + 2)) again
+
+  module _ (at : ℕ) where
+    pub scan-no-id : two.Short ≡ le16At s at → Unknown ≡ scanAt s at
+    unfolding scanAt scanFrom
+    scan-no-id e = rw (← e)
+
+    pub scan-no-len : (id : ℕ) → two.Value id ≡ le16At s at → two.Short ≡ le16At s (at + 2) → Unknown ≡ scanAt s at
+    unfolding scanAt scanFrom
+    scan-no-len id e g = rw (← e, ← g)
+
+    module _ (id len : ℕ) (e : two.Value id ≡ le16At s at) (g : two.Value len ≡ le16At s (at + 2)) where
+      as-judged : (v : Verdict) → v ≡ judged s at id len (scanFrom (length s) s) → v ≡ scanAt s at
+      unfolding scanAt scanFrom
+      as-judged v h = rw (← e, ← g) h
+
+      pub scan-found : id ≡ 0x002F → Yes (factsOf (take len (drop (at + 4) s))) ≡ scanAt s at
+      scan-found h = as-judged _ (stop _ (eq-eqb id 0x002F h))
+
+      module _ (other : id ≡ 0x002F → ⊥) where
+        pub scan-absent : neverEncrypted id ≡ false → No ≡ scanAt s at
+        scan-absent h = as-judged No (skip _ (ne-eqb id 0x002F other) (stop _ (ap not h)))
+
+        pub scan-past : neverEncrypted id ≡ true → length s < at + 4 + len → Unknown ≡ scanAt s at
+        scan-past h k = as-judged Unknown (skip _ (ne-eqb id 0x002F other) (skip _ (ap not h) (skip _ (lt-leb (at + 4 + len) (length s) k) refl)))
+
+        pub scan-on : neverEncrypted id ≡ true → at + 4 + len ≤ length s → scanAt s (at + 4 + len) ≡ scanAt s at
+        unfolding scanAt
+        scan-on h k =
+            enough (suc (length s)) (length s) (at + 4 + len) k (omega arith) (omega arith)
+            ∙ as-judged (scanFrom (length s) s (at + 4 + len)) (skip _ (ne-eqb id 0x002F other) (skip _ (ap not h) (stop _ (le-leb (at + 4 + len) (length s) k))))
+
+-- a body that is cut at the end of the book
+pub body-cut : (l : List ℕ) (start len n e : ℕ) → n ≡ min (length l - start) len → e ≡ start + n → take (e - start) (drop start l) ≡ take len (drop start l)
+body-cut l start len n e h g =
+    let d = drop start l in
+    let k : length d ≡ length l - start = length-drop start l in
+    either len (length d)
+    (λ m. let q : e - start ≡ len = omega arith in ap (λ (i : ℕ). take i d) q)
+    (λ m. let q : e - start ≡ length d = omega arith in ap (λ (i : ℕ). take i d) q ∙ take-all (length d) d (le-refl (length d)) ∙ sym (take-all len d (omega arith)))
+
+pub book-cut : (l : List ℕ) (cap n : ℕ) → n ≡ min (length l) cap → take (n - 0) l ≡ take cap l
+book-cut l cap n h = body-cut l 0 cap n n (h ∙ ap (λ (k : ℕ). min k cap) (sym (sub-zero (length l)))) (sym (zero-add n))
+
+module _ (s : List ℕ) where
+  pub look-short : two.Short ≡ le16At (take 1048576 s) 0 → Unknown ≡ look s
+  unfolding look
+  look-short e = rw (← e)
+
+  module _ (id : ℕ) (e : two.Value id ≡ le16At (take 1048576 s) 0) where
+    pub look-scan : (v : Verdict) → id ≡ 0x0809 → v ≡ scanAt (take 1048576 s) 0 → v ≡ look s
+    unfolding look
+    look-scan v h g = rw (← e) (g ∙ stop _ (eq-eqb id 0x0809 h))
+
+    pub look-other : (id ≡ 0x0809 → ⊥) → Unknown ≡ look s
+    unfolding look
+    look-other h = rw (← e) (skip _ (ne-eqb id 0x0809 h) refl)
+
+-- Same lock is symmetric
+beq-sym : (a b : Bool) → Bool·beq a b ≡ Bool·beq b a
+beq-sym true true = refl
+beq-sym true false = refl
+beq-sym false true = refl
+beq-sym false false = refl
+
+eqb-sym : (a b : ℕ) → eqb a b ≡ eqb b a
+eqb-sym a b = same-or a b (λ e. rw e) (λ e. ne-eqb a b e ∙ sym (ne-eqb b a (λ g. e (sym g))))
+
+version-sym : (v w : Version) → sameVersion v w ≡ sameVersion w v
+version-sym NoVersion NoVersion = refl
+version-sym NoVersion (Pair a b) = refl
+version-sym (Pair a b) NoVersion = refl
+version-sym (Pair a b) (Pair c d) = rw (eqb-sym a c, eqb-sym b d)
+
+size-sym : (v w : KeySize) → sameSize v w ≡ sameSize w v
+size-sym NoSize NoSize = refl
+size-sym NoSize (Bits b) = refl
+size-sym (Bits a) NoSize = refl
+size-sym (Bits a) (Bits b) = eqb-sym a b
+
+facts-sym : (f g : Facts) → sameFacts f g ≡ sameFacts g f
+facts-sym f g = rw (beq-sym (f .xor) (g .xor), version-sym (f .version) (g .version), size-sym (f .«key_size») (g .«key_size»))
+
+verdict-sym : (v w : Verdict) → sameVerdict v w ≡ sameVerdict w v
+verdict-sym Unknown Unknown = refl
+verdict-sym Unknown No = refl
+verdict-sym Unknown (Yes g) = refl
+verdict-sym No Unknown = refl
+verdict-sym No No = refl
+verdict-sym No (Yes g) = refl
+verdict-sym (Yes f) Unknown = refl
+verdict-sym (Yes f) No = refl
+verdict-sym (Yes f) (Yes g) = facts-sym f g
+
+pub same-lock-sym : (s t : List ℕ) → sameLock s t ≡ sameLock t s
+unfolding sameLock
+same-lock-sym s t = verdict-sym (look s) (look t)
+
+-- and true of a stream and itself exactly where its look says yes
+beq-self : (a : Bool) → Bool·beq a a ≡ true
+beq-self true = refl
+beq-self false = refl
+
+version-self : (v : Version) → sameVersion v v ≡ true
+version-self NoVersion = refl
+version-self (Pair a b) = rw (eq-eqb a a refl, eq-eqb b b refl)
+
+size-self : (k : KeySize) → sameSize k k ≡ true
+size-self NoSize = refl
+size-self (Bits a) = eq-eqb a a refl
+
+pub same-lock-self : (s : List ℕ) (f : Facts) → look s ≡ Yes f → sameLock s s ≡ true
+unfolding sameLock
+same-lock-self s f e = rw (e, beq-self (f .xor), version-self (f .version), size-self (f .«key_size»))
+
+pub same-lock-yes : (s : List ℕ) → sameLock s s ≡ true → (f : Facts) × (look s ≡ Yes f)
+unfolding sameLock
+same-lock-yes s e = go (look s) refl e
+  where
+    go : (v : Verdict) → look s ≡ v → sameVerdict v v ≡ true → (f : Facts) × (look s ≡ Yes f)
+    go Unknown g h = absurd (false-true h)
+      where
+        false-true : false ≡ true → ⊥
+        false-true h = let z : _≡_ {A = ℕ} 0 1 = cc in omega arith
+    go No g h = absurd (false-true h)
+      where
+        false-true : false ≡ true → ⊥
+        false-true h = let z : _≡_ {A = ℕ} 0 1 = cc in omega arith
+    go (Yes f) g h = (f, g)

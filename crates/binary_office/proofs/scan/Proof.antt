@@ -1,0 +1,74 @@
+-- `binary_office::scan` meets its contract: at each header the scan from there is the scan from the start, and each way out is one case of it.
+-- Assumes nothing.
+use borrow.Author.Needs.{needs}
+use mathlib.Core.Path.{_≡_, refl, sym, ap, _∙_}
+use native.Mathlib.Omega.{arith}
+use Prim.Native.Nat.{_≤_, _-_}
+use lib.ListN.{length}
+use borrow.Author.Tests.{not-true, not-false}
+use Rattle.binary_office.specs.Look.{scanAt}
+use Rattle.binary_office.proofs.Locks.{scan-no-id, scan-no-len, scan-found, scan-absent, scan-past, scan-on}
+use Rattle.binary_office.proofs.Headers.{le16-within}
+use Rattle.binary_office.specs.declared.Verdict.the-variants.{Yes}
+use Rattle.binary_office.proofs.scan.Statement.{statement}
+use Rattle.binary_office.proofs.scan.Tie as tie
+
+abbrev Inv-loop : tie.InvT-loop
+Inv-loop book at₀ at = (at ≤ length book) × (scanAt book at ≡ scanAt book 0)
+
+abbrev μ-loop : tie.MeasureT-loop
+μ-loop book at₀ at = length book - at
+
+loop-holds : tie.Need-loop-holds Inv-loop μ-loop
+loop-holds c = (search needs, refl)
+
+facts-at-requires : tie.Need-facts-at-requires Inv-loop μ-loop
+facts-at-requires c κs =
+    let h = le16-within (c .before .before .before .before .before .before .before .before .before .before .before .args .book .now) _ _ (sym (c .before .before .len .given .1) ∙ c .before .before .before .before .le162 .ensures) in
+    omega arith
+
+loop-again : tie.Need-loop-again Inv-loop μ-loop
+loop-again c = (c .if3 .left, scan-on (c .before .before .before .before .before .before .before .before .before .before .before .before .before .before .args .book .now) (c .before .before .before .before .before .before .before .before .before .before .before .before .loop .at) _ _ (sym (c .before .before .before .before .before .before .before .before .before .id .given .1) ∙ c .before .before .before .before .before .before .before .before .before .before .before .le16 .ensures) (sym (c .before .before .before .before .before .len .given .1) ∙ c .before .before .before .before .before .before .before .le162 .ensures) (c .before .before .before .if1 .left) (sym (c .before .before .never-encrypted .ensures) ∙ not-false _ (c .before .if2 .left)) (c .if3 .left) ∙ c .before .before .before .before .before .before .before .before .before .before .before .before .loop .inv .1)
+
+returns : tie.Need-returns Inv-loop μ-loop
+returns c = scan-no-id (c .before .before .before .before .before .args .book .now) (c .before .before .before .loop .at) (sym (c .enum-told .given .1) ∙ c .before .before .le16 .ensures) ∙ c .before .before .before .loop .inv .1
+
+returns-2 : tie.Need-returns-2 Inv-loop μ-loop
+returns-2 c = scan-no-len (c .before .before .before .before .before .before .before .before .before .args .book .now) (c .before .before .before .before .before .before .before .loop .at) _ (sym (c .before .before .before .before .id .given .1) ∙ c .before .before .before .before .before .before .le16 .ensures) (sym (c .enum-told2 .given .1) ∙ c .before .before .le162 .ensures) ∙ c .before .before .before .before .before .before .before .loop .inv .1
+
+returns-3 : tie.Need-returns-3 Inv-loop μ-loop
+returns-3 c = ap Yes (c .facts-at .ensures) ∙ scan-found (c .before .before .before .before .before .before .before .before .before .before .before .before .args .book .now) (c .before .before .before .before .before .before .before .before .before .before .loop .at) _ _ (sym (c .before .before .before .before .before .before .before .id .given .1) ∙ c .before .before .before .before .before .before .before .before .before .le16 .ensures) (sym (c .before .before .before .len .given .1) ∙ c .before .before .before .before .before .le162 .ensures) (c .before .if1 .taken) ∙ c .before .before .before .before .before .before .before .before .before .before .loop .inv .1
+
+returns-4 : tie.Need-returns-4 Inv-loop μ-loop
+returns-4 c = scan-absent (c .before .before .before .before .before .before .before .before .before .before .before .before .before .args .book .now) (c .before .before .before .before .before .before .before .before .before .before .before .loop .at) _ _ (sym (c .before .before .before .before .before .before .before .before .id .given .1) ∙ c .before .before .before .before .before .before .before .before .before .before .le16 .ensures) (sym (c .before .before .before .before .len .given .1) ∙ c .before .before .before .before .before .before .le162 .ensures) (c .before .before .if1 .left) (sym (c .before .never-encrypted .ensures) ∙ not-true _ (c .if2 .taken)) ∙ c .before .before .before .before .before .before .before .before .before .before .before .loop .inv .1
+
+returns-5 : tie.Need-returns-5 Inv-loop μ-loop
+returns-5 c = scan-past (c .before .before .before .before .before .before .before .before .before .before .before .before .before .before .args .book .now) (c .before .before .before .before .before .before .before .before .before .before .before .before .loop .at) _ _ (sym (c .before .before .before .before .before .before .before .before .before .id .given .1) ∙ c .before .before .before .before .before .before .before .before .before .before .before .le16 .ensures) (sym (c .before .before .before .before .before .len .given .1) ∙ c .before .before .before .before .before .before .before .le162 .ensures) (c .before .before .before .if1 .left) (sym (c .before .before .never-encrypted .ensures) ∙ not-false _ (c .before .if2 .left)) (c .if3 .taken) ∙ c .before .before .before .before .before .before .before .before .before .before .before .before .loop .inv .1
+
+pub scan-spec : {M : Type 1} → statement M
+scan-spec =
+    tie.close
+    (tie.spec
+    Inv-loop
+    μ-loop
+    loop-holds
+    (λ c κs. search needs)
+    (λ c. search needs)
+    (λ c. search needs)
+    (λ c. search needs)
+    (λ c κs. search needs)
+    (λ c. search needs)
+    (λ c. search needs)
+    (λ c. search needs)
+    facts-at-requires
+    (λ c κs. search needs)
+    (λ c. search needs)
+    (λ c. search needs)
+    (λ c. search needs)
+    (λ c. search needs)
+    loop-again
+    returns
+    returns-2
+    returns-3
+    returns-4
+    returns-5)

@@ -1,0 +1,416 @@
+// The record walk and Look: from the Rust source's binary_office.rs, its Excel part, with its names.
+// `BiffRecords` is its iterator: a struct that holds the stream and the position, over a core on plain
+// slices.
+ghost use mathlib.Core.Path.{_≡_};
+ghost use Prim.Native.Nat.{_+_, _*_, _^_, _≤_, min};
+ghost use lib.ListN.{length, take, drop};
+ghost use Rattle.binary_office.specs.Fields.{le16At, le32At};
+ghost use Rattle.binary_office.specs.Walk.{stepAt, nextAt, walk, walkedOf, neverEncrypted, clearLen};
+ghost use Rattle.binary_office.specs.Look.{versionOf, sizeOf, factsOf, scanAt, look, sameVersion, sameSize, sameFacts, sameVerdict, sameLock};
+
+// A field of two bytes: its value, or that it is cut short.
+pub enum Field16 {
+    Value(u16),
+    Short,
+}
+
+// A field of four bytes: its value, or that it is cut short.
+pub enum Field32 {
+    Value(u32),
+    Short,
+}
+
+// What stands at an offset of a stream: a record, by its id and length; a fault, by its place; the end.
+pub enum Step {
+    Record(u16, u16),
+    Fault(usize),
+    End,
+}
+
+// How a walk ends: at the end of the stream, or at a fault's place.
+pub enum WalkEnd {
+    Clean,
+    Fault(usize),
+}
+
+// A whole walk: how many records there are, and how it ends.
+pub struct Walked {
+    pub records: usize,
+    pub end: WalkEnd,
+}
+
+// The version pair of a lock, if present.
+pub enum Version {
+    Pair(u16, u16),
+    NoVersion,
+}
+
+// The key size of a lock in bits, if present.
+pub enum KeySize {
+    Bits(u32),
+    NoSize,
+}
+
+// What a FILEPASS body tells of the lock.
+pub struct Facts {
+    pub xor: bool,
+    pub version: Version,
+    pub key_size: KeySize,
+}
+
+// Whether a book is locked.
+pub enum Verdict {
+    Yes(Facts),
+    No,
+    Unknown,
+}
+
+// The number of two bytes, the lower first.
+fn two_bytes(a: u8, b: u8) -> u16
+    ensures { λ r. ⌜ r ≡ a + b * 2 ^ 8 ⌝ }
+{
+    (a as u16) + (b as u16) * 256
+}
+
+// The field of two bytes at an offset.
+pub fn le16(s: &[u8], at: usize) -> Field16
+    ensures { λ r. ⌜ r ≡ le16At (now (s .entry)) at ⌝ }
+{
+    if s.len() < 2 {
+        return Field16::Short;
+    }
+    if s.len() - 2 < at {
+        return Field16::Short;
+    }
+    Field16::Value(two_bytes(s[at], s[at + 1]))
+}
+
+// The field of four bytes at an offset.
+pub fn le32(s: &[u8], at: usize) -> Field32
+    ensures { λ r. ⌜ r ≡ le32At (now (s .entry)) at ⌝ }
+{
+    if s.len() < 4 {
+        return Field32::Short;
+    }
+    if s.len() - 4 < at {
+        return Field32::Short;
+    }
+    Field32::Value(word::from_le_bytes(s[at], s[at + 1], s[at + 2], s[at + 3]))
+}
+
+// What stands at an offset: a header cut short, or a body past the end, is a fault at the header's offset.
+pub fn step_at(s: &[u8], at: usize) -> Step
+    ensures { λ r. ⌜ r ≡ stepAt (now (s .entry)) at ⌝ }
+{
+    if s.len() <= at {
+        return Step::End;
+    }
+    let Field16::Value(id) = le16(s, at) else {
+        return Step::Fault(at);
+    };
+    let Field16::Value(len) = le16(s, at + 2) else {
+        return Step::Fault(at);
+    };
+    if at + 4 + (len as usize) <= s.len() {
+        Step::Record(id, len)
+    } else {
+        Step::Fault(at)
+    }
+}
+
+// Where the next header stands, behind the record at an offset; where there is none, the offset itself.
+pub fn next_at(s: &[u8], at: usize) -> usize
+    ensures { λ r. ⌜ r ≡ nextAt (now (s .entry)) at ⌝ }
+{
+    match step_at(s, at) {
+        Step::End => at,
+        Step::Fault(_) => at,
+        Step::Record(_, len) => at + 4 + (len as usize),
+    }
+}
+
+// Whether a record's body is never enciphered: the source's BIFF_NEVER_ENCRYPTED.
+pub fn never_encrypted(id: u16) -> bool
+    ensures { λ r. ⌜ r ≡ neverEncrypted id ⌝ }
+{
+    (id == 0x0809)
+        | (id == 0x002F)
+        | (id == 0x00E1)
+        | (id == 0x0138)
+        | (id == 0x0194)
+        | (id == 0x0195)
+        | (id == 0x0196)
+}
+
+// How many bytes of a body are clear.
+pub fn clear_len(id: u16, len: u16) -> u16
+    ensures { λ r. ⌜ r ≡ clearLen id len ⌝ }
+{
+    if never_encrypted(id) {
+        return len;
+    }
+    if id == 0x0085 {
+        return least(4, len);
+    }
+    0
+}
+
+fn least(a: u16, b: u16) -> u16
+    ensures { λ r. ⌜ r ≡ min a b ⌝ }
+{
+    if a < b { a } else { b }
+}
+
+// The whole walk: how many records there are, and how it ends.
+pub fn walk(s: &[u8]) -> Walked
+    ensures { λ r. ⌜ r ≡ walkedOf (walk (now (s .entry))) ⌝ }
+{
+    let mut at: usize = 0;
+    let mut records: usize = 0;
+    loop {
+        match step_at(s, at) {
+            Step::End => {
+                return Walked {
+                    records,
+                    end: WalkEnd::Clean,
+                };
+            }
+            Step::Fault(place) => {
+                return Walked {
+                    records,
+                    end: WalkEnd::Fault(place),
+                };
+            }
+            Step::Record(_, len) => {
+                at = at + 4 + (len as usize);
+                records += 1;
+            }
+        }
+    }
+}
+
+// The version pair of a FILEPASS body.
+fn version_of(body: &[u8]) -> Version
+    ensures { λ r. ⌜ r ≡ versionOf (now (body .entry)) ⌝ }
+{
+    let Field16::Value(major) = le16(body, 2) else {
+        return Version::NoVersion;
+    };
+    let Field16::Value(minor) = le16(body, 4) else {
+        return Version::NoVersion;
+    };
+    Version::Pair(major, minor)
+}
+
+// The key size of a FILEPASS body with a version.
+fn size_of(body: &[u8], version: Version) -> KeySize
+    ensures { λ r. ⌜ r ≡ sizeOf (now (body .entry)) version ⌝ }
+{
+    let Version::Pair(major, minor) = version else {
+        return KeySize::NoSize;
+    };
+    if (2 <= major) & (major <= 4) & (minor == 2) {
+        let Field32::Value(bits) = le32(body, 30) else {
+            return KeySize::NoSize;
+        };
+        if (1 <= bits) & (bits <= 4096) {
+            return KeySize::Bits(bits);
+        }
+        return KeySize::NoSize;
+    }
+    KeySize::NoSize
+}
+
+// What a FILEPASS body tells of the lock.
+fn facts_of(body: &[u8]) -> Facts
+    ensures { λ r. ⌜ r ≡ factsOf (now (body .entry)) ⌝ }
+{
+    let Field16::Value(kind) = le16(body, 0) else {
+        return Facts {
+            xor: false,
+            version: Version::NoVersion,
+            key_size: KeySize::NoSize,
+        };
+    };
+    if kind == 0 {
+        return Facts {
+            xor: true,
+            version: Version::NoVersion,
+            key_size: KeySize::NoSize,
+        };
+    }
+    let version = version_of(body);
+    let key_size = size_of(body, version);
+    Facts {
+        xor: false,
+        version,
+        key_size,
+    }
+}
+
+fn least_usize(a: usize, b: usize) -> usize
+    ensures { λ r. ⌜ r ≡ min a b ⌝ }
+{
+    if a < b { a } else { b }
+}
+
+// The facts of a FILEPASS body that starts at an offset and is cut at the end of the book.
+fn facts_at(book: &[u8], start: usize, len: u16) -> Facts
+    requires { ⌜ start ≤ length (now book) ⌝ }
+    ensures { λ r. ⌜ r ≡ factsOf (take len (drop start (now (book .entry)))) ⌝ }
+{
+    let n = least_usize(book.len() - start, len as usize);
+    facts_of(&book[start..start + n])
+}
+
+// The scan of the headers up to the first of three findings: FILEPASS, an id outside the seven, an
+// unreadable header or body.
+fn scan(book: &[u8]) -> Verdict
+    ensures { λ r. ⌜ r ≡ scanAt (now (book .entry)) 0 ⌝ }
+{
+    let mut at: usize = 0;
+    let verdict = loop {
+        let Field16::Value(id) = le16(book, at) else {
+            break Verdict::Unknown;
+        };
+        let Field16::Value(len) = le16(book, at + 2) else {
+            break Verdict::Unknown;
+        };
+        if id == 0x002F {
+            break Verdict::Yes(facts_at(book, at + 4, len));
+        }
+        if !never_encrypted(id) {
+            break Verdict::No;
+        }
+        let end = at + 4 + (len as usize);
+        if book.len() < end {
+            break Verdict::Unknown;
+        }
+        at = end;
+    };
+    verdict
+}
+
+// Whether a book is locked, by its first bytes up to the cap, and what its lock tells.
+pub fn look(stream: &[u8]) -> Verdict
+    ensures { λ r. ⌜ r ≡ look (now (stream .entry)) ⌝ }
+{
+    let n = least_usize(stream.len(), limits::BIFF_SCAN_CAP);
+    let book = &stream[0..n];
+    let Field16::Value(id) = le16(book, 0) else {
+        return Verdict::Unknown;
+    };
+    if id == 0x0809 {
+        scan(book)
+    } else {
+        Verdict::Unknown
+    }
+}
+
+// Whether two versions agree.
+fn same_version(a: Version, b: Version) -> bool
+    ensures { λ r. ⌜ r ≡ sameVersion a b ⌝ }
+{
+    match a {
+        Version::NoVersion => match b {
+            Version::NoVersion => true,
+            Version::Pair(_, _) => false,
+        },
+        Version::Pair(major, minor) => match b {
+            Version::NoVersion => false,
+            Version::Pair(other_major, other_minor) => (major == other_major)
+                & (minor == other_minor),
+        },
+    }
+}
+
+// Whether two key sizes agree.
+fn same_size(a: KeySize, b: KeySize) -> bool
+    ensures { λ r. ⌜ r ≡ sameSize a b ⌝ }
+{
+    match a {
+        KeySize::NoSize => match b {
+            KeySize::NoSize => true,
+            KeySize::Bits(_) => false,
+        },
+        KeySize::Bits(bits) => match b {
+            KeySize::NoSize => false,
+            KeySize::Bits(other) => bits == other,
+        },
+    }
+}
+
+// Whether two locks tell the same.
+fn same_facts(f: Facts, g: Facts) -> bool
+    ensures { λ r. ⌜ r ≡ sameFacts f g ⌝ }
+{
+    let version = f.version;
+    let other_version = g.version;
+    let size = f.key_size;
+    let other_size = g.key_size;
+    (f.xor == g.xor) & same_version(version, other_version) & same_size(size, other_size)
+}
+
+// Whether two verdicts are both yes, with facts that agree.
+fn same_verdict(v: Verdict, w: Verdict) -> bool
+    ensures { λ r. ⌜ r ≡ sameVerdict v w ⌝ }
+{
+    match v {
+        Verdict::Unknown => false,
+        Verdict::No => false,
+        Verdict::Yes(f) => match w {
+            Verdict::Unknown => false,
+            Verdict::No => false,
+            Verdict::Yes(g) => same_facts(f, g),
+        },
+    }
+}
+
+// Whether two books have the same lock, as far as Look tells.
+pub fn same_lock(a: &[u8], b: &[u8]) -> bool
+    ensures { λ r. ⌜ r ≡ sameLock (now (a .entry)) (now (b .entry)) ⌝ }
+{
+    same_verdict(look(a), look(b))
+}
+
+// The records of a stream, one after the other: the source's iterator, as a struct that keeps the
+// borrowed stream with its position.
+pub struct BiffRecords<'a> {
+    pub book: &'a [u8],
+    pub pos: usize,
+}
+
+// The records of a stream from its start.
+pub fn biff_records<'a>(book: &'a [u8]) -> BiffRecords<'a>
+    ensures { λ r. ⌜ (r .book ≡ book .entry) × (r .pos ≡ 0) ⌝ }
+{
+    BiffRecords { book, pos: 0 }
+}
+
+// What stands at the walker's position.
+pub fn next<'a>(r: BiffRecords<'a>) -> Step
+    ensures { λ s. ⌜ s ≡ stepAt (now (r .entry .book)) (r .entry .pos) ⌝ }
+{
+    step_at(r.book, r.pos)
+}
+
+// Where the header behind the record at the walker's position stands.
+pub fn next_pos<'a>(r: BiffRecords<'a>) -> usize
+    ensures { λ n. ⌜ n ≡ nextAt (now (r .entry .book)) (r .entry .pos) ⌝ }
+{
+    next_at(r.book, r.pos)
+}
+
+// The walker at another position of the same stream.
+pub fn moved<'a>(r: BiffRecords<'a>, pos: usize) -> BiffRecords<'a>
+    ensures { λ q. ⌜ (q .book ≡ r .entry .book) × (q .pos ≡ pos) ⌝ }
+{
+    BiffRecords { book: r.book, pos }
+}
+
+// The first record of a stream, by way of the walker.
+pub fn first_record(book: &[u8]) -> Step
+    ensures { λ r. ⌜ r ≡ stepAt (now (book .entry)) 0 ⌝ }
+{
+    next(biff_records(book))
+}
