@@ -1,0 +1,22 @@
+-- `listing_text::put_fault` meets its contract: the parts of the line, one behind the other.
+-- Assumes nothing.
+use Rattle.listing_text.proofs.Written.{puts-join}
+use mathlib.Core.List.{_++_}
+use Rattle.listing_text.specs.Text.{unreadable, decimal}
+use borrow.Author.Needs.{needs}
+use Rattle.listing_text.proofs.put_fault.Statement.{statement}
+use Rattle.listing_text.proofs.put_fault.Tie as tie
+
+returns : tie.Need-returns
+returns c = puts-join (unreadable ++ decimal (c .before .before .before .before .before .before .before .before .before .before .before .before .before .before .args .place)) _ (puts-join unreadable _ (c .before .before .before .before .before .before .before .before .before .before .put-bytes .ensures) (c .before .before .before .before .before .before .put-decimal .ensures .0)) (c .before .before .put .ensures)
+
+pub put-fault-spec : {M : Type 1} → statement M
+put-fault-spec =
+    tie.close
+    (tie.spec
+    (λ c. search needs)
+    (λ c κs. search needs)
+    (λ c κs. search needs)
+    (λ c κs. search needs)
+    (λ c. search needs)
+    returns)

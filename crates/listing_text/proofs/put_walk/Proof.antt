@@ -1,0 +1,89 @@
+-- `listing_text::put_walk` meets its contract: the text so far, and that of the walk from the offset on, make the whole; six bytes of text for each byte passed are enough to bound it.
+-- Assumes nothing.
+use borrow.Author.Needs.{needs}
+use mathlib.Core.Path.{_≡_, refl, sym, _∙_}
+use native.Mathlib.Omega.{arith}
+use Prim.Native.Nat.{_+_, _*_, _≤_, _-_}
+use lib.ListN.{length}
+use Rattle.binary_office.proofs.Walks.{record-within, fault-place}
+use Rattle.listing_text.proofs.Written.{Listed, listed-none, listed-on, listed-end, listed-fault}
+use Rattle.listing_text.proofs.put_walk.Statement.{statement}
+use Rattle.listing_text.proofs.put_walk.Tie as tie
+
+abbrev Inv-loop : tie.InvT-loop
+Inv-loop out₀ n stream n₀ at₀ out n' at = (at ≤ length stream) × (n' ≤ 32 + at * 6) × (length out ≡ length out₀) × Listed stream n at out₀ n' out
+
+abbrev μ-loop : tie.MeasureT-loop
+μ-loop out₀ n stream n₀ at₀ out n' at = length stream - at
+
+loop-holds : tie.Need-loop-holds Inv-loop μ-loop
+loop-holds c = (search needs, search needs, refl, listed-none _ _ _)
+
+same-length : tie.Need-same-length Inv-loop μ-loop
+same-length c = c .before .before .before .loop .inv .2
+
+returns : tie.Need-returns Inv-loop μ-loop
+returns c = listed-end (c .before .before .before .before .before .before .args .stream .now) (c .before .before .before .loop .at) (sym (c .before .before .step-at .ensures) ∙ c .enum-told .given .1) (c .before .before .before .loop .inv .3)
+
+put-fault-requires : tie.Need-put-fault-requires Inv-loop μ-loop
+put-fault-requires c κs =
+    let h = fault-place (c .before .before .before .before .before .before .before .before .args .stream .now) (c .before .before .before .before .before .loop .at) _ (sym (c .before .before .before .before .step-at .ensures) ∙ c .before .before .place .given .1) in
+    omega arith
+
+same-length-2 : tie.Need-same-length-2 Inv-loop μ-loop
+same-length-2 c = c .before .before .put-fault .kept .0 ∙ c .before .before .before .before .before .before .before .before .loop .inv .2
+
+returns-2 : tie.Need-returns-2 Inv-loop μ-loop
+returns-2 c = listed-fault (c .before .before .before .before .before .before .before .before .before .before .before .args .stream .now) (c .before .before .before .before .before .before .before .before .loop .at) _ (sym (c .before .before .before .before .before .before .before .step-at .ensures) ∙ c .before .before .before .before .before .place .given .1) (c .before .before .before .before .before .before .before .before .loop .inv .3) (c .before .before .put-fault .ensures)
+
+put-line-requires : tie.Need-put-line-requires Inv-loop μ-loop
+put-line-requires c κs =
+    let h = record-within (c .before .before .before .before .before .before .before .before .args .stream .now) (c .before .before .before .before .before .loop .at) _ _ (sym (c .before .before .before .before .step-at .ensures) ∙ c .before .before .id .given .1) in
+    omega arith
+
+add-at : tie.Need-add-at Inv-loop μ-loop
+add-at c =
+    let h = record-within (c .before .before .before .before .before .before .before .before .before .before .before .args .stream .now) (c .before .before .before .before .before .before .before .before .loop .at) _ _ (sym (c .before .before .before .before .before .before .before .step-at .ensures) ∙ c .before .before .before .before .before .id .given .1) in
+    omega arith
+
+add-at-2 : tie.Need-add-at-2 Inv-loop μ-loop
+add-at-2 c =
+    let h = record-within (c .before .before .before .before .before .before .before .before .before .before .before .args .stream .now) (c .before .before .before .before .before .before .before .before .loop .at) _ _ (sym (c .before .before .before .before .before .before .before .step-at .ensures) ∙ c .before .before .before .before .before .id .given .1) in
+    omega arith
+
+loop-less : tie.Need-loop-less Inv-loop μ-loop
+loop-less c =
+    let h = record-within (c .before .before .before .before .before .before .before .before .before .before .before .args .stream .now) (c .before .before .before .before .before .before .before .before .loop .at) _ _ (sym (c .before .before .before .before .before .before .before .step-at .ensures) ∙ c .before .before .before .before .before .id .given .1) in
+    omega arith
+
+loop-again : tie.Need-loop-again Inv-loop μ-loop
+loop-again c =
+    let h = record-within (c .before .before .before .before .before .before .before .before .before .before .before .args .stream .now) (c .before .before .before .before .before .before .before .before .loop .at) _ _ (sym (c .before .before .before .before .before .before .before .step-at .ensures) ∙ c .before .before .before .before .before .id .given .1) in (
+      h,
+      omega (arith, c .before .before .put-line .ensures .1),
+      c .before .before .put-line .kept .0 ∙ c .before .before .before .before .before .before .before .before .loop .inv .2,
+      listed-on (c .before .before .before .before .before .before .before .before .before .before .before .args .stream .now) (c .before .before .before .before .before .before .before .before .loop .at) _ _ (sym (c .before .before .before .before .before .before .before .step-at .ensures) ∙ c .before .before .before .before .before .id .given .1) (c .before .before .before .before .before .before .before .before .loop .inv .3) (c .before .before .put-line .ensures .0),
+    )
+
+pub put-walk-spec : {M : Type 1} → statement M
+put-walk-spec =
+    tie.close
+    (tie.spec
+    Inv-loop
+    μ-loop
+    loop-holds
+    (λ c κs. search needs)
+    (λ c. search needs)
+    same-length
+    returns
+    (λ c. search needs)
+    put-fault-requires
+    same-length-2
+    returns-2
+    (λ c. search needs)
+    put-line-requires
+    add-at
+    (λ c. search needs)
+    add-at-2
+    loop-less
+    loop-again)
