@@ -1,5 +1,6 @@
 pub mod Choice
 pub mod Copy
 pub mod Offsets
+pub mod Parts
 pub mod Table
 pub mod Written

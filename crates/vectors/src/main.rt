@@ -3,6 +3,9 @@
 // many differ. tools/ has the scripts that make the data: make_vectors.py, make_texts.py, XorVectors.java.
 use libc::STDOUT_FILENO;
 use rc4::Keystream;
+use samples::Loaded;
+use samples::number;
+use samples::part;
 use sensitive::Encoded;
 use xor_obfuscation::XorKey;
 ghost use Prim.Native.Nat.{_<_, _^_, _≤_};
@@ -27,30 +30,6 @@ fn tallied(t: Tally, same: bool) -> Tally {
         run,
         differ: std::num::wrapping_add_u64(t.differ, 1),
     }
-}
-
-// A part of the data, or no bytes where it does not lie within.
-fn part(data: &[u8], at: usize, len: usize) -> &[u8] {
-    if data.len() < at {
-        return &data[..0];
-    }
-    if data.len() - at < len {
-        return &data[..0];
-    }
-    &data[at..at + len]
-}
-
-// The number of four bytes at an offset, or 0 where it does not lie within.
-fn number(data: &[u8], at: usize) -> usize
-    ensures { λ r. ⌜ r < 2 ^ 32 ⌝ }
-{
-    if data.len() < 4 {
-        return 0;
-    }
-    if data.len() - 4 < at {
-        return 0;
-    }
-    word::from_le_bytes(data[at], data[at + 1], data[at + 2], data[at + 3]) as usize
 }
 
 fn md5_set(data: &[u8]) -> Tally {
@@ -246,14 +225,10 @@ fn large_buffer() -> [u8; 262144]
 fn load(path: &[u8], buffer: &mut [u8]) -> usize
     ensures { λ r. ⌜ r ≤ length (now (buffer .entry)) ⌝ }
 {
-    let file = os::open_read(path);
-    if file < 0 {
-        os::fail(path);
-        return 0;
+    match samples::load(path, buffer) {
+        Loaded::Bytes(n) => n,
+        Loaded::Failed => 0,
     }
-    let n = io::read_full(file, buffer);
-    libc::close(file);
-    n
 }
 
 fn report(name: &[u8], t: Tally) {

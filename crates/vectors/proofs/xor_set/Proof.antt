@@ -5,12 +5,6 @@ use Prim.Native.Nat.{_-_}
 use lib.ListN.{length}
 use Rattle.vectors.proofs.xor_set.Statement.{statement}
 use Rattle.vectors.proofs.xor_set.Tie as tie
-use Rattle.vectors.proofs.xor_set.Reads as reads
-use Rattle.vectors.proofs.xor_set.Lts as lts
-use Rattle.vectors.proofs.number.Reads as number-reads
-use Rattle.vectors.proofs.part.Reads as part-reads
-use Rattle.vectors.proofs.tallied.Reads as tallied-reads
-use Rattle.vectors.proofs.xor_same.Reads as xor-same-reads
 
 abbrev Inv-loop : tie.InvT-loop
 Inv-loop «data» t₀ at₀ t at = Unit
@@ -18,109 +12,29 @@ Inv-loop «data» t₀ at₀ t at = Unit
 abbrev μ-loop : tie.MeasureT-loop
 μ-loop «data» t₀ at₀ t at = length «data» - at
 
--- src/main.rt:222:5
-loop-holds : tie.Need-loop-holds Inv-loop μ-loop
-loop-holds c = search needs
-
--- src/main.rt:223:13
-number-requires : tie.Need-number-requires Inv-loop μ-loop
-number-requires c κs = search needs
-
--- src/main.rt:224:32
-add-number : tie.Need-add-number Inv-loop μ-loop
-add-number c = search needs
-
--- src/main.rt:224:32
-add-number-2 : tie.Need-add-number-2 Inv-loop μ-loop
-add-number-2 c = search needs
-
--- src/main.rt:224:13
-number-requires-2 : tie.Need-number-requires-2 Inv-loop μ-loop
-number-requires-2 c κs = search needs
-
--- src/main.rt:225:37
-add-number-3 : tie.Need-add-number-3 Inv-loop μ-loop
-add-number-3 c = search needs
-
--- src/main.rt:225:37
-add-number-4 : tie.Need-add-number-4 Inv-loop μ-loop
-add-number-4 c = search needs
-
--- src/main.rt:225:13
-number-requires-3 : tie.Need-number-requires-3 Inv-loop μ-loop
-number-requires-3 c κs = search needs
-
--- src/main.rt:226:40
-add-part : tie.Need-add-part Inv-loop μ-loop
-add-part c = search needs
-
--- src/main.rt:226:29
-part-requires : tie.Need-part-requires Inv-loop μ-loop
-part-requires c κs = search needs
-
--- src/main.rt:226:80
-add-part-2 : tie.Need-add-part-2 Inv-loop μ-loop
-add-part-2 c = search needs
-
--- src/main.rt:226:80
-add-part-3 : tie.Need-add-part-3 Inv-loop μ-loop
-add-part-3 c = search needs
-
--- src/main.rt:226:69
-part-requires-2 : tie.Need-part-requires-2 Inv-loop μ-loop
-part-requires-2 c κs = search needs
-
--- src/main.rt:226:13
-xor-same-requires : tie.Need-xor-same-requires Inv-loop μ-loop
-xor-same-requires c κs = search needs
-
--- src/main.rt:227:9
-tallied-requires : tie.Need-tallied-requires Inv-loop μ-loop
-tallied-requires c κs = search needs
-
--- src/main.rt:228:14
-add-at : tie.Need-add-at Inv-loop μ-loop
-add-at c = search needs
-
--- src/main.rt:228:14
-add-at-2 : tie.Need-add-at-2 Inv-loop μ-loop
-add-at-2 c = search needs
-
--- src/main.rt:222:5
-loop-less : tie.Need-loop-less Inv-loop μ-loop
-loop-less c = search needs
-
--- src/main.rt:222:5
-loop-again : tie.Need-loop-again Inv-loop μ-loop
-loop-again c = search needs
-
--- src/main.rt:219:1
-returns : tie.Need-returns Inv-loop μ-loop
-returns c = search needs
-
 pub xor-set-spec : {M : Type 1} → statement M
 xor-set-spec =
     tie.close
     (tie.spec
     Inv-loop
     μ-loop
-    loop-holds
-    number-requires
-    add-number
-    add-number-2
-    number-requires-2
-    add-number-3
-    add-number-4
-    number-requires-3
-    add-part
-    part-requires
-    add-part-2
-    add-part-3
-    part-requires-2
-    xor-same-requires
-    tallied-requires
-    add-at
-    add-at-2
-    loop-less
-    loop-again
-    returns)
+    (λ c. search needs)
+    (λ c κs. search needs)
+    (λ c. search needs)
+    (λ c. search needs)
+    (λ c κs. search needs)
+    (λ c. search needs)
+    (λ c. search needs)
+    (λ c κs. search needs)
+    (λ c. search needs)
+    (λ c κs. search needs)
+    (λ c. search needs)
+    (λ c. search needs)
+    (λ c κs. search needs)
+    (λ c κs. search needs)
+    (λ c κs. search needs)
+    (λ c. search needs)
+    (λ c. search needs)
+    (λ c. search needs)
+    (λ c. search needs)
+    (λ c. search needs))
