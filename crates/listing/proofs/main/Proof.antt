@@ -1,0 +1,33 @@
+-- `listing::main` meets its contract: no more was read than the buffer has room for.
+-- Assumes nothing.
+use native.Mathlib.Omega.{arith}
+use Rattle.samples.specs.Sample.{Within}
+use lib.ListN.{length}
+use Rattle.samples.specs.declared.Loaded.{Loaded}
+use mathlib.Core.Path.{subst}
+use borrow.Author.Needs.{needs}
+use Rattle.listing.proofs.main.Statement.{statement}
+use Rattle.listing.proofs.main.Tie as tie
+
+part-list-end : tie.Need-part-list-end
+part-list-end c =
+    let l = c .before .before .before .before .before .load in
+    let h = subst (λ (r : Loaded). Within r (length (c .before .before .before .before .before .before .before .before .stream-buffer .result))) (c .before .before .n .given .1) (l .ensures) in
+    omega (arith, l .kept .1 .0, h)
+
+pub main-spec : {M : Type 1} → statement M
+main-spec =
+    tie.close
+    (tie.spec
+    (λ c κs. search needs)
+    (λ c. search needs)
+    (λ c. search needs)
+    (λ c κs. search needs)
+    (λ c. search needs)
+    (λ c. search needs)
+    (λ c. search needs)
+    part-list-end
+    (λ c κs. search needs)
+    (λ c. search needs)
+    (λ c. search needs)
+    (λ c. search needs))

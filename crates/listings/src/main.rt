@@ -1,0 +1,51 @@
+// Prints the listings of the streams in its data, one after the other, each behind a line that numbers it
+// and tells its length. tools/make_listings.py makes the data and what is expected.
+use libc::STDOUT_FILENO;
+use samples::Loaded;
+ghost use mathlib.Core.Path.{_≡_};
+ghost use lib.ListN.{length};
+
+fn data_buffer() -> [u8; 131072]
+    ensures { λ r. ⌜ 131072 ≡ length r ⌝ }
+{
+    [0; 131072]
+}
+
+// Writes the listing of a stream.
+fn list(stream: &[u8]) {
+    let mut text = data_buffer();
+    let len = listing_text::listing(stream, &mut text);
+    if len <= text.len() {
+        io::write_all(STDOUT_FILENO, &text[0..len]);
+    }
+}
+
+// Writes the line before a listing.
+fn announce(number: u64, len: usize) {
+    io::write_all(STDOUT_FILENO, b"stream ");
+    io::print_decimal(STDOUT_FILENO, number);
+    io::write_all(STDOUT_FILENO, b": ");
+    io::print_decimal(STDOUT_FILENO, len as u64);
+    io::write_all(STDOUT_FILENO, b" bytes\n");
+}
+
+// Writes the listings of all streams: each stands behind its length of four bytes.
+fn list_all(all: &[u8]) {
+    let mut number: u64 = 1;
+    let mut at: usize = 0;
+    while at < all.len() {
+        let len = samples::number(all, at);
+        announce(number, len);
+        list(samples::part(all, at + 4, len));
+        number = std::num::wrapping_add_u64(number, 1);
+        at = at + 4 + len;
+    }
+}
+
+fn main() {
+    let mut all = data_buffer();
+    match samples::load(b"streams", &mut all) {
+        Loaded::Bytes(n) => list_all(&all[0..n]),
+        Loaded::Failed => {}
+    }
+}
