@@ -198,13 +198,10 @@ pub same-lock-yes : (s : List ℕ) → sameLock s s ≡ true → (f : Facts) × 
 unfolding sameLock
 same-lock-yes s e = go (look s) refl e
   where
+    false-true : false ≡ true → ⊥
+    false-true h = let z : _≡_ {A = ℕ} 0 1 = cc in omega arith
+
     go : (v : Verdict) → look s ≡ v → sameVerdict v v ≡ true → (f : Facts) × (look s ≡ Yes f)
     go Unknown g h = absurd (false-true h)
-      where
-        false-true : false ≡ true → ⊥
-        false-true h = let z : _≡_ {A = ℕ} 0 1 = cc in omega arith
     go No g h = absurd (false-true h)
-      where
-        false-true : false ≡ true → ⊥
-        false-true h = let z : _≡_ {A = ℕ} 0 1 = cc in omega arith
     go (Yes f) g h = (f, g)
