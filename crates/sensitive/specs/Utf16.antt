@@ -1,4 +1,4 @@
--- UTF-16 with the lower byte first: RFC 2781 sections 2.1 and 3.2, as MS-OFFCRYPTO 2.3.5.2 and 2.3.6.2 take a password.
+-- UTF-16 with the lower byte first: RFC 2781 sections 2.1 and 3.1, as MS-OFFCRYPTO 2.3.5.2 and 2.3.6.2 take a password.
 -- Assumes nothing.
 use Prim.Native.Nat.{ℕ, _+_, _-_, _/_, _%_, _^_}
 use mathlib.Core.List.{List, [], _∷_, _++_}

@@ -10,7 +10,7 @@ use Rattle.word.specs.Word.{_⊞_, rotl, be32, be-bytes}
 use Rattle.padding.specs.Padding.{hash, be64}
 use Rattle.sha1.specs.declared.State.{State}
 
--- 3.2 (2): the complement of a word
+-- 3.2 (1): the complement of a word
 abbrev pub complement : ℕ → ℕ
 complement x = 2 ^ 32 - 1 - x
 

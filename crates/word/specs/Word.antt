@@ -6,7 +6,7 @@ use mathlib.Core.List.{List, [], _∷_}
 use lib.Bits.{bitOr}
 use lib.ListN.{getD}
 
--- the sum of words drops the carry: FIPS 180-4 3.2 (1), RFC 1321 2
+-- the sum of words drops the carry: FIPS 180-4 3.2 (2), RFC 1321 2
 infixl 30 _⊞_
 abbrev pub _⊞_ : ℕ → ℕ → ℕ
 _⊞_ x y = (x + y) % 2 ^ 32
