@@ -186,7 +186,7 @@ pub fn compress(h: State, block: &[u8; 64]) -> State
 }
 
 // The hash value after the whole blocks of a message.
-fn compress_all(h: State, m: &[u8]) -> State
+pub fn compress_all(h: State, m: &[u8]) -> State
     ensures { λ r. ⌜ r ≡ blocks compressed h (now (m .entry)) (length (now (m .entry)) / 64) ⌝ }
 {
     let mut v = h;
