@@ -49,6 +49,12 @@ pub struct AnsiPassword {
     pub len: usize,
 }
 
+// The key of one block: its bytes, of which the first len count, with zeros behind them.
+pub struct DerivedKey {
+    pub bytes: [u8; 16],
+    pub len: usize,
+}
+
 // The byte at an offset of a text, 0 past its end.
 fn byte_at(text: &[u8], at: usize) -> u8
     ensures { λ r. ⌜ r ≡ getD (now (text .entry)) at 0 ⌝ }
