@@ -1,3 +1,4 @@
 pub mod Examples
+pub mod Halves
 pub mod Rearranged
 pub mod Table

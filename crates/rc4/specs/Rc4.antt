@@ -1,7 +1,7 @@
 -- RC4 as document 01 has it ("The three locks", RC4). Sums of the table's indices and entries are modulo 256.
 -- Assumes nothing.
 use mathlib.Core.Path.{_≡_}
-use Prim.Native.Nat.{ℕ, zero, suc, _+_, _%_, min}
+use Prim.Native.Nat.{ℕ, zero, suc, _+_, _-_, _/_, _%_, min}
 use mathlib.Core.Bool.{true, false}
 use mathlib.Core.List.{List, [], _∷_, _++_}
 use lib.Bits.{bitXor}
@@ -86,6 +86,22 @@ enciphered k s d = tabulate (applied k s) (min (length s) (length d)) ++ drop (m
 pub record Applies (k : Keystream) (s d : List ℕ) (k′ : Keystream) (d′ : List ℕ) : Type 0 where
   pub keystream : k′ ≡ after k (min (length s) (length d))
   pub bytes : d′ ≡ enciphered k s d
+
+-- half of the bytes that both lists have room for
+abbrev pub half : List ℕ → List ℕ → ℕ
+half s d = min (length s) (length d) / 2
+
+-- a byte of s under the first keystream in the first half, of h bytes, and under the second in the second
+abbrev pub appliedHalves : Keystream → Keystream → ℕ → List ℕ → ℕ → ℕ
+appliedHalves a b h s n = pick (ltb n h) (applied a s n) (bitXor (getD s n 0) (byteFrom b (n - h)))
+
+-- the bytes of both halves of s, as many as d has room for, in the place of d's first ones
+abbrev pub encipheredHalves : Keystream → Keystream → List ℕ → List ℕ → List ℕ
+encipheredHalves a b s d = tabulate (appliedHalves a b (half s d) s) (half s d + half s d) ++ drop (half s d + half s d) d
+
+-- what applying two keystreams to the halves of s into d leaves
+pub record AppliesHalves (a b : Keystream) (s d d′ : List ℕ) : Type 0 where
+  pub bytes : d′ ≡ encipheredHalves a b s d
 
 -- how often v stands in a table
 unfoldable pub count : ℕ → List ℕ → ℕ

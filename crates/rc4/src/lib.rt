@@ -3,7 +3,7 @@
 ghost use mathlib.Core.Path.{_≡_};
 ghost use Prim.Native.Nat.{_%_, _<_, min};
 ghost use lib.ListN.{length};
-ghost use Rattle.rc4.specs.Rc4.{identity, mixing, made, Applies};
+ghost use Rattle.rc4.specs.Rc4.{identity, mixing, made, Applies, AppliesHalves};
 
 // A keystream under one key: the table, and the two indices into it.
 pub struct Keystream {
@@ -126,5 +126,39 @@ impl Keystream {
             i: (i % 256) as u8,
             j: (j % 256) as u8,
         }
+    }
+}
+
+// The first half of src under one keystream and the second half under another, into dst: as many bytes
+// as both have room for, less one if that is odd. The two run side by side.
+pub fn apply_halves(a: Keystream, b: Keystream, src: &[u8], dst: &mut [u8])
+    ensures { λ _. ⌜ AppliesHalves a b (now (src .entry)) (now (dst .entry)) (now (dst .exit)) ⌝ }
+{
+    let h = least(src.len(), dst.len()) / 2;
+    let mut s = a.table;
+    let i = wide(a.i);
+    let mut j = wide(a.j);
+    let mut t = b.table;
+    let u = wide(b.i);
+    let mut v = wide(b.j);
+    let mut k = 0;
+    while k < h {
+        let m = (i + 1 + k) % 256;
+        let c = s[m];
+        j = (j + wide(c)) % 256;
+        let d = s[j];
+        s[m] = d;
+        s[j] = c;
+        let x = (wide(c) + wide(d)) % 256;
+        dst[k] = src[k] ^ s[x];
+        let n = (u + 1 + k) % 256;
+        let e = t[n];
+        v = (v + wide(e)) % 256;
+        let f = t[v];
+        t[n] = f;
+        t[v] = e;
+        let y = (wide(e) + wide(f)) % 256;
+        dst[k + h] = src[k + h] ^ t[y];
+        k += 1;
     }
 }
