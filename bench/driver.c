@@ -1,5 +1,5 @@
-/* Times the proved hashes and RC4 beside plain C and OpenSSL, in one run, on the same bytes. Each figure is the best of several rounds in
-   which the candidates take turns. What they compute is compared first. */
+/* Times the proved hashes, RC4 and XOR obfuscation beside plain C and OpenSSL, in one run, on the same bytes. Each figure is the best of
+   several rounds in which the candidates take turns. What they compute is compared first. */
 #include <openssl/md5.h>
 #include <openssl/rc4.h>
 #include <openssl/sha.h>
@@ -14,17 +14,20 @@
 void bench_sha1(const uint8_t *m, size_t len, uint8_t out[20]);
 void bench_md5(const uint8_t *m, size_t len, uint8_t out[16]);
 bool bench_rc4(const uint8_t *key, size_t key_len, const uint8_t *src, size_t src_len, uint8_t *dst, size_t dst_len);
+bool bench_rc4_halves(const uint8_t *key, size_t key_len, const uint8_t *other, size_t other_len, const uint8_t *src, size_t src_len, uint8_t *dst, size_t dst_len);
+void bench_xor(const uint8_t array[16], size_t index, const uint8_t *src, size_t src_len, uint8_t *dst, size_t dst_len);
 
 #define PLAIN(p) \
     void p##sha1(const uint8_t *m, size_t len, uint8_t out[20]); \
     void p##md5(const uint8_t *m, size_t len, uint8_t out[16]); \
-    void p##rc4(const uint8_t *key, size_t key_len, const uint8_t *src, uint8_t *dst, size_t len);
+    void p##rc4(const uint8_t *key, size_t key_len, const uint8_t *src, uint8_t *dst, size_t len); \
+    void p##xor(const uint8_t array[16], size_t index, const uint8_t *src, uint8_t *dst, size_t len);
 PLAIN(gcc_)
 PLAIN(llvm_)
 
-enum { SIZE = 16 << 20, ROUNDS = 9, SHORT = 24, SHORTS = 1 << 17 };
+enum { SIZE = 16 << 20, LARGE = 64 << 20, ROUNDS = 9, SHORT = 24, SHORTS = 1 << 17, PIECE = 2048, RECORD = 20, RECORDS = 1 << 17 };
 static uint8_t *data, *out[4], digest[4][20];
-static const uint8_t key[16] = "a key of sixteen";
+static const uint8_t key[16] = "a key of sixteen", other[16] = "sixteen of a key";
 
 static double now(void)
 {
@@ -64,6 +67,59 @@ static void rc4_by(int who, const uint8_t *m, size_t len)
     }
 }
 
+/* the halves of a part under two keys, the key setups included */
+static void halves_by(int who, size_t at, size_t len)
+{
+    RC4_KEY state;
+    size_t h = len / 2;
+    switch (who) {
+    case 0: bench_rc4_halves(key, 16, other, 16, data + at, len, out[0] + at, len); break;
+    case 1: llvm_rc4(key, 16, data + at, out[1] + at, h); llvm_rc4(other, 16, data + at + h, out[1] + at + h, h); break;
+    case 2: gcc_rc4(key, 16, data + at, out[2] + at, h); gcc_rc4(other, 16, data + at + h, out[2] + at + h, h); break;
+    default:
+        RC4_set_key(&state, 16, key); RC4(&state, h, data + at, out[3] + at);
+        RC4_set_key(&state, 16, other); RC4(&state, h, data + at + h, out[3] + at + h);
+        break;
+    }
+}
+
+static void halves_whole(int who, const uint8_t *m, size_t len)
+{
+    (void)m;
+    halves_by(who, 0, len);
+}
+
+static void halves_pieces(int who, const uint8_t *m, size_t len)
+{
+    (void)m;
+    for (size_t i = 0; i < len; i += PIECE)
+        halves_by(who, i, PIECE);
+}
+
+/* the fourth copies: no byte can go through faster */
+static void xor_part(int who, size_t index, size_t at, size_t len)
+{
+    switch (who) {
+    case 0: bench_xor(key, index, data + at, len, out[0] + at, len); break;
+    case 1: llvm_xor(key, index, data + at, out[1] + at, len); break;
+    case 2: gcc_xor(key, index, data + at, out[2] + at, len); break;
+    default: memcpy(out[3] + at, data + at, len); break;
+    }
+}
+
+static void xor_by(int who, const uint8_t *m, size_t len)
+{
+    (void)m;
+    xor_part(who, 3, 0, len);
+}
+
+static void xor_records(int who, const uint8_t *m, size_t len)
+{
+    (void)m;
+    for (size_t i = 0; i < len; i += RECORD)
+        xor_part(who, i, i, RECORD);
+}
+
 static void sha1_short(int who, const uint8_t *m, size_t len)
 {
     for (size_t i = 0; i < len; i += SHORT)
@@ -76,7 +132,7 @@ static void md5_short(int who, const uint8_t *m, size_t len)
         md5_by(who, m + i, SHORT);
 }
 
-static void run(const char *name, void (*by)(int, const uint8_t *, size_t), size_t len, int compared)
+static void run(const char *name, void (*by)(int, const uint8_t *, size_t), size_t len, int compared, const char *fourth)
 {
     double best[4] = {1e9, 1e9, 1e9, 1e9};
     for (int round = 0; round < ROUNDS; round++)
@@ -87,30 +143,34 @@ static void run(const char *name, void (*by)(int, const uint8_t *, size_t), size
             if (t < best[who])
                 best[who] = t;
         }
-    for (int who = 1; who < 4; who++)
+    for (int who = 1; who < (strcmp(fourth, "memcpy") ? 4 : 3); who++)
         if (compared < 0 ? memcmp(out[0], out[who], len) : memcmp(digest[0], digest[who], compared)) {
             printf("%s: candidate %d computes something else\n", name, who);
             exit(1);
         }
-    printf("%-28s %7.0f MB/s   %.2f of plain C by the same LLVM   %.2f of gcc -O3   %.2f of OpenSSL\n", name, len / best[0] / 1e6, best[1] / best[0], best[2] / best[0], best[3] / best[0]);
+    printf("%-30s %7.0f MB/s   %.2f of plain C by the same LLVM   %.2f of gcc -O3   %.2f of %s\n", name, len / best[0] / 1e6, best[1] / best[0], best[2] / best[0], best[3] / best[0], fourth);
 }
 
 int main(void)
 {
-    data = malloc(SIZE);
+    data = malloc(LARGE);
     for (int i = 0; i < 4; i++)
-        out[i] = malloc(SIZE);
+        out[i] = malloc(LARGE);
     uint64_t x = 88172645463325252u;
-    for (size_t i = 0; i < SIZE; i++) {
+    for (size_t i = 0; i < LARGE; i++) {
         x ^= x << 13; x ^= x >> 7; x ^= x << 17;
         data[i] = (uint8_t)x;
     }
     for (int i = 0; i < 4; i++)
-        memset(out[i], 0, SIZE);
-    run("SHA-1, 16 MiB", sha1_by, SIZE, 20);
-    run("SHA-1, messages of 24 bytes", sha1_short, (size_t)SHORT * SHORTS, 20);
-    run("MD5, 16 MiB", md5_by, SIZE, 16);
-    run("MD5, messages of 24 bytes", md5_short, (size_t)SHORT * SHORTS, 16);
-    run("RC4, one stream of 16 MiB", rc4_by, SIZE, -1);
+        memset(out[i], 0, LARGE);
+    run("SHA-1, 16 MiB", sha1_by, SIZE, 20, "OpenSSL");
+    run("SHA-1, messages of 24 bytes", sha1_short, (size_t)SHORT * SHORTS, 20, "OpenSSL");
+    run("MD5, 16 MiB", md5_by, SIZE, 16, "OpenSSL");
+    run("MD5, messages of 24 bytes", md5_short, (size_t)SHORT * SHORTS, 16, "OpenSSL");
+    run("RC4, one stream of 16 MiB", rc4_by, SIZE, -1, "OpenSSL");
+    run("RC4, two streams of 8 MiB", halves_whole, SIZE, -1, "OpenSSL");
+    run("RC4, two keys for 2,048 bytes", halves_pieces, SIZE, -1, "OpenSSL");
+    run("XOR, 64 MiB", xor_by, LARGE, -1, "memcpy");
+    run("XOR, records of 20 bytes", xor_records, (size_t)RECORD * RECORDS, -1, "memcpy");
     return 0;
 }

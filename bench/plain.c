@@ -1,5 +1,5 @@
-/* Plain C: SHA-1 (FIPS 180-4), MD5 (RFC 1321) and RC4, written the ordinary way. PREFIX names the copy, so that one file compiled by two
-   compilers can be linked into one driver. */
+/* Plain C: SHA-1 (FIPS 180-4), MD5 (RFC 1321), RC4 and XOR obfuscation, written the ordinary way. PREFIX names the copy, so that one file
+   compiled by two compilers can be linked into one driver. */
 #include <stddef.h>
 #include <stdint.h>
 
@@ -119,5 +119,13 @@ void NAME(PREFIX, rc4)(const uint8_t *key, size_t key_len, const uint8_t *src, u
         s[i] = b;
         s[j] = a;
         dst[k] = src[k] ^ s[(uint8_t)(a + b)];
+    }
+}
+
+void NAME(PREFIX, xor)(const uint8_t array[16], size_t index, const uint8_t *src, uint8_t *dst, size_t len)
+{
+    for (size_t k = 0; k < len; k++) {
+        uint8_t x = src[k] ^ array[(index + k) % 16];
+        dst[k] = (uint8_t)(x >> 5 | x << 3);
     }
 }

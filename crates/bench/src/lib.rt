@@ -1,9 +1,11 @@
-// C exports of the hashes and of RC4 for the benchmark in bench/.
+// C exports of the hashes, of RC4 and of XOR obfuscation for the benchmark in bench/.
 ghost use mathlib.Core.Path.{_≡_};
+ghost use mathlib.Core.Bool.{_&&_};
 ghost use Rattle.laws.specs.Choice.{pick};
-ghost use Rattle.rc4.specs.Rc4.{made, enciphered};
+ghost use Rattle.rc4.specs.Rc4.{made, enciphered, encipheredHalves};
 ghost use Rattle.sha1.specs.Sha1.{sha1};
 ghost use Rattle.md5.specs.Md5.{md5};
+ghost use Rattle.xor_obfuscation.specs.Xor.{Deciphers};
 use rc4::Keystream;
 
 // The SHA-1 digest of a message.
@@ -36,4 +38,27 @@ pub extern "C" fn bench_rc4(key: &[u8], src: &[u8], dst: &mut [u8]) -> bool
     let keystream = made.keystream;
     keystream.apply(src, dst);
     true
+}
+
+// The halves of src under the keystreams of two keys, into dst; false for a key of no such length, whose
+// keystream is then that of the unmixed table.
+#[no_mangle]
+pub extern "C" fn bench_rc4_halves(key: &[u8], other: &[u8], src: &[u8], dst: &mut [u8]) -> bool
+    ensures { λ r. ⌜ r ≡ made (now (key .entry)) .ok && made (now (other .entry)) .ok ⌝ }
+    ensures { λ r. ⌜ now (dst .exit) ≡ encipheredHalves (made (now (key .entry)) .keystream) (made (now (other .entry)) .keystream) (now (src .entry)) (now (dst .entry)) ⌝ }
+{
+    let first = Keystream::new(key);
+    let second = Keystream::new(other);
+    let a = first.keystream;
+    let b = second.keystream;
+    rc4::apply_halves(a, b, src, dst);
+    first.ok & second.ok
+}
+
+// The bytes of src, deciphered from an index of the array on, into dst.
+#[no_mangle]
+pub extern "C" fn bench_xor(array: &[u8; 16], index: usize, src: &[u8], dst: &mut [u8])
+    ensures { λ _. ⌜ Deciphers (now (array .entry)) index (now (src .entry)) (now (dst .entry)) (now (dst .exit)) ⌝ }
+{
+    xor_obfuscation::decrypt(array, index, src, dst);
 }

@@ -1,2 +1,3 @@
 pub mod Derived
 pub mod Doubling
+pub mod Pieces

@@ -91,6 +91,10 @@ xorArray p key = tabulate (xorArrayAt p key) 16
 abbrev pub deciphered : List ℕ → ℕ → ℕ → ℕ → ℕ
 deciphered array index o x = rotr 8 5 (bitXor x (getD array ((index + o) % 16) 0))
 
+-- the byte of s at an offset
+abbrev pub decipheredAt : List ℕ → ℕ → List ℕ → ℕ → ℕ
+decipheredAt array index s o = deciphered array index o (getD s o 0)
+
 -- what deciphering s into d leaves: as many bytes as both have room for
 pub record Deciphers (array : List ℕ) (index : ℕ) (s d d′ : List ℕ) : Type 0 where
   pub bytes : d′ ≡ tabulate (λ (o : ℕ). deciphered array index o (getD s o 0)) (min (length s) (length d)) ++ drop (min (length s) (length d)) d

@@ -8,7 +8,9 @@ ghost use lib.Dec.{eqb};
 ghost use lib.ListN.{length, getD, drop};
 ghost use Rattle.laws.specs.Choice.{pick};
 ghost use Rattle.laws.specs.Offsets.{tabulate};
-ghost use Rattle.xor_obfuscation.specs.Xor.{padArray, initialCode, xorMatrix, verifierStep, passwordVerifier, charBits, keyOf, xorArray, Deciphers};
+ghost use Rattle.laws.proofs.Written.{Written};
+ghost use Rattle.word.specs.Word.{rotr};
+ghost use Rattle.xor_obfuscation.specs.Xor.{padArray, initialCode, xorMatrix, verifierStep, passwordVerifier, charBits, keyOf, xorArray, decipheredAt, Deciphers};
 
 // PadArray, InitialCode and XorMatrix of MS-OFFCRYPTO 2.3.7.2.
 pub const PAD_ARRAY: [u8; 15] = [
@@ -293,17 +295,94 @@ pub fn xor_array(password: &[u8], key: u16) -> [u8; 16]
     array
 }
 
+// A byte deciphered with a byte of the array.
+fn deciphered_byte(c: u8, key: u8) -> u8
+    ensures { λ r. ⌜ r ≡ rotr 8 5 (bitXor c key) ⌝ }
+{
+    let x = c ^ key;
+    word::rotate_right_u8(x, 5)
+}
+
+// The array twice over: from any index on there are 16 bytes of it in order.
+fn doubled(array: &[u8; 16]) -> [u8; 32]
+    ensures { λ r. ⌜ r ≡ tabulate (λ (n : ℕ). getD (now (array .entry)) (n % 16) 0) 32 ⌝ }
+{
+    let mut twice = [0u8; 32];
+    let mut i = 0;
+    while i < 32 {
+        twice[i] = array[i % 16];
+        i += 1;
+    }
+    twice
+}
+
+// The 16 bytes of src from a place on, deciphered from an index of the array on.
+fn piece(twice: &[u8; 32], start: usize, src: &[u8], at: usize) -> [u8; 16]
+    requires { ⌜ (start < 16) × (at + 16 ≤ length (now src)) ⌝ }
+    ensures { λ r. ⌜ r ≡ tabulate (λ (i : ℕ). rotr 8 5 (bitXor (getD (now (src .entry)) (at + i) 0) (getD (now (twice .entry)) (start + i) 0))) 16 ⌝ }
+{
+    let mut out = [0u8; 16];
+    let mut i = 0;
+    while i < 16 {
+        out[i] = deciphered_byte(src[at + i], twice[start + i]);
+        i += 1;
+    }
+    out
+}
+
+// 16 bytes into dst, from a place on.
+fn put(bytes: [u8; 16], dst: &mut [u8], at: usize)
+    requires { ⌜ at + 16 ≤ length (now dst) ⌝ }
+    ensures { λ _. ⌜ Written (λ (o : ℕ). getD bytes (o - at) 0) at (at + 16) (now (dst .entry)) (now (dst .exit)) ⌝ }
+{
+    let mut i = 0;
+    while i < 16 {
+        dst[at + i] = bytes[i];
+        i += 1;
+    }
+}
+
+// The first n bytes, at least 16, in pieces of 16. The last piece ends at n, and where n is no multiple
+// of 16 it writes some bytes of the one before it once more.
+fn decrypt_long(array: &[u8; 16], index: usize, src: &[u8], dst: &mut [u8], n: usize)
+    requires { ⌜ (16 ≤ n) × (n ≤ length (now src)) × (n ≤ length (now dst)) ⌝ }
+    ensures { λ _. ⌜ Written (decipheredAt (now (array .entry)) index (now (src .entry))) 0 n (now (dst .entry)) (now (dst .exit)) ⌝ }
+{
+    let twice = doubled(array);
+    let first = index % 16;
+    let last = n - 16;
+    let mut at = 0;
+    while at < last {
+        put(piece(&twice, first, src, at), dst, at);
+        at += 16;
+    }
+    put(piece(&twice, (first + n) % 16, src, last), dst, last);
+}
+
+// The first n bytes, one by one.
+fn decrypt_short(array: &[u8; 16], index: usize, src: &[u8], dst: &mut [u8], n: usize)
+    requires { ⌜ (n ≤ length (now src)) × (n ≤ length (now dst)) ⌝ }
+    ensures { λ _. ⌜ Written (decipheredAt (now (array .entry)) index (now (src .entry))) 0 n (now (dst .entry)) (now (dst .exit)) ⌝ }
+{
+    let start = index % 16;
+    let mut k = 0;
+    while k < n {
+        let c = src[k];
+        let x = deciphered_byte(c, array[(start + k) % 16]);
+        dst[k] = x;
+        k += 1;
+    }
+}
+
 // DecryptData_Method1: the bytes of src, deciphered from an index of the array on, into dst, as many
 // as both have room for.
 pub fn decrypt(array: &[u8; 16], index: usize, src: &[u8], dst: &mut [u8])
     ensures { λ _. ⌜ Deciphers (now (array .entry)) index (now (src .entry)) (now (dst .entry)) (now (dst .exit)) ⌝ }
 {
     let n = least(src.len(), dst.len());
-    let start = index % 16;
-    let mut k = 0;
-    while k < n {
-        let x = src[k] ^ array[(start + k) % 16];
-        dst[k] = word::rotate_right_u8(x, 5);
-        k += 1;
+    if n < 16 {
+        decrypt_short(array, index, src, dst, n);
+        return;
     }
+    decrypt_long(array, index, src, dst, n);
 }

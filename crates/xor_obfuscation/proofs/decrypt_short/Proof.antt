@@ -1,0 +1,55 @@
+-- `xor_obfuscation::decrypt_short` meets its contract: after k turns the first k bytes are deciphered; the start is reduced modulo 16 before the sum, which changes no remainder.
+-- Assumes nothing.
+use borrow.Author.Needs.{needs}
+use mathlib.Core.Path.{_≡_, ap, _∙_}
+use native.Mathlib.Omega.{arith}
+use Prim.Native.Nat.{ℕ, _+_, _≤_, _-_, _%_}
+use lib.Bits.{bitXor}
+use lib.ListN.{getD}
+use Rattle.laws.proofs.Written.{Written, written-none, written-more}
+use Rattle.word.specs.Word.{rotr}
+use Rattle.xor_obfuscation.specs.Xor.{decipheredAt}
+use Rattle.xor_obfuscation.proofs.decrypt_short.Statement.{statement}
+use Rattle.xor_obfuscation.proofs.decrypt_short.Tie as tie
+
+abbrev Inv-loop : tie.InvT-loop
+Inv-loop array index src dst₀ n start k₀ dst k = (k ≤ n) × Written (decipheredAt array index src) 0 k dst₀ dst
+
+abbrev μ-loop : tie.MeasureT-loop
+μ-loop array index src dst₀ n start k₀ dst k = n - k
+
+loop-holds : tie.Need-loop-holds Inv-loop μ-loop
+loop-holds c = (search needs, written-none _ 0 _)
+
+loop-again : tie.Need-loop-again Inv-loop μ-loop
+loop-again c =
+    let l = c .before .before .before .before .loop in
+    let a = c .before .before .before .before .before .before .before .args in
+    let e : (a .index % 16 + l .k) % 16 ≡ (a .index + l .k) % 16 = omega arith in
+    let x : c .deciphered-byte .result ≡ decipheredAt (a .array .now) (a .index) (a .src .now) (l .k) =
+    c .deciphered-byte .ensures ∙ ap (λ (n : ℕ). rotr 8 5 (bitXor (getD (a .src .now) (l .k) 0) (getD (a .array .now) n 0))) e in
+    (search needs, written-more _ 0 (l .k) (a .dst .now) (l .dst) (c .deciphered-byte .result) (omega arith) (search needs) x (l .inv .1))
+
+returns : tie.Need-returns Inv-loop μ-loop
+returns c =
+    let l = c .before .loop in
+    let e : l .k ≡ c .before .before .before .before .args .n = omega arith in
+    rw e at (l .inv .1)
+
+pub decrypt-short-spec : {M : Type 1} → statement M
+decrypt-short-spec =
+    tie.close
+    (tie.spec
+    Inv-loop
+    μ-loop
+    loop-holds
+    (λ c. search needs)
+    (λ c. search needs)
+    (λ c. search needs)
+    (λ c κs. search needs)
+    (λ c. search needs)
+    (λ c. search needs)
+    (λ c. search needs)
+    loop-again
+    (λ c. search needs)
+    returns)

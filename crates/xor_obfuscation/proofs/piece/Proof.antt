@@ -1,0 +1,56 @@
+-- `xor_obfuscation::piece` meets its contract: after i turns the first i bytes are deciphered.
+-- Assumes nothing.
+use borrow.Author.Needs.{needs}
+use mathlib.Core.Path.{_≡_, refl, sym, _∙_}
+use native.Mathlib.Omega.{arith}
+use native.Mathlib.Nat.{le-of-eq}
+use Prim.Native.Nat.{ℕ, _+_, _≤_, _-_}
+use lib.Bits.{bitXor}
+use lib.ListN.{length, getD, take}
+use lib.Seq.{take-all}
+use Rattle.laws.specs.Offsets.{tabulate}
+use Rattle.laws.proofs.Offsets.{tabulate-store}
+use Rattle.word.specs.Word.{rotr}
+use Rattle.xor_obfuscation.proofs.piece.Statement.{statement}
+use Rattle.xor_obfuscation.proofs.piece.Tie as tie
+
+abbrev Inv-loop : tie.InvT-loop
+Inv-loop twice start src at out₀ i₀ out i = (i ≤ 16) × (length out ≡ 16) × (take i out ≡ tabulate (λ (n : ℕ). rotr 8 5 (bitXor (getD src (at + n) 0) (getD twice (start + n) 0))) i)
+
+abbrev μ-loop : tie.MeasureT-loop
+μ-loop twice start src at out₀ i₀ out i = 16 - i
+
+loop-holds : tie.Need-loop-holds Inv-loop μ-loop
+unfolding tabulate
+loop-holds c = (search needs, search needs, refl)
+
+loop-again : tie.Need-loop-again Inv-loop μ-loop
+loop-again c =
+    let l = c .before .before .before .before .loop in
+    let a = c .before .before .before .before .before .before .args in
+    let f : ℕ → ℕ = λ (n : ℕ). rotr 8 5 (bitXor (getD (a .src .now) (a .at + n) 0) (getD (a .twice .now) (a .start + n) 0)) in
+    (search needs, search needs, tabulate-store f (l .out) (l .i) (c .deciphered-byte .result) (omega arith) (l .inv .2) (c .deciphered-byte .ensures))
+
+returns : tie.Need-returns Inv-loop μ-loop
+returns c =
+    let l = c .before .loop in
+    let e : l .i ≡ 16 = omega arith in
+    sym (take-all 16 (l .out) (le-of-eq (l .inv .1))) ∙ (rw e at (l .inv .2))
+
+pub piece-spec : {M : Type 1} → statement M
+piece-spec =
+    tie.close
+    (tie.spec
+    Inv-loop
+    μ-loop
+    loop-holds
+    (λ c. search needs)
+    (λ c. search needs)
+    (λ c. search needs)
+    (λ c. search needs)
+    (λ c κs. search needs)
+    (λ c. search needs)
+    (λ c. search needs)
+    (λ c. search needs)
+    loop-again
+    returns)
