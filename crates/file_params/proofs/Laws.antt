@@ -1,0 +1,46 @@
+-- The questions, asked from the top: past a "yes" the next one counts, a "no" answers, and a list behind another counts where that one has no "no".
+-- Assumes nothing.
+use mathlib.Core.Path.{_≡_, refl, sym, ap, _∙_}
+use mathlib.Core.Bool.{Bool, true, false}
+use mathlib.Core.List.{List, [], _∷_, _++_}
+use mathlib.Core.Option.{Option, none, some}
+use Rattle.laws.specs.Choice.{pick}
+use Rattle.laws.proofs.Choice.{taken, left}
+use Rattle.file_params.specs.declared.Refusal.{Refusal}
+use Rattle.file_params.specs.Questions.{Question, asked, only}
+
+-- past a "yes"; a "no". A table of questions opens into these choices.
+pub past : {t : Bool} {y z : Option Refusal} (x : Option Refusal) → t ≡ true → z ≡ y → z ≡ pick t y x
+past {y = y} x e g = g ∙ sym (taken y x e)
+
+pub refused : {t : Bool} {x : Option Refusal} (y : Option Refusal) → t ≡ false → x ≡ pick t y x
+refused {x = x} y e = sym (left y x e)
+
+-- a list of questions and another behind it
+abbrev by : Option Refusal → Option Refusal → Option Refusal
+by none b = b
+by (some r) b = some r
+
+pub asked-append : (ps qs : List Question) → asked (ps ++ qs) ≡ by (asked ps) (asked qs)
+unfolding asked pick
+asked-append [] qs = refl
+asked-append (q ∷ ps) qs = go (q .yes) (asked-append ps qs)
+  where
+    go : (t : Bool) → asked (ps ++ qs) ≡ by (asked ps) (asked qs) → pick t (asked (ps ++ qs)) (some (q .no)) ≡ by (pick t (asked ps) (some (q .no))) (asked qs)
+    go true e = e
+    go false e = refl
+
+pub asked-on : (ps qs : List Question) → none ≡ asked ps → asked (ps ++ qs) ≡ asked qs
+asked-on ps qs e = asked-append ps qs ∙ rw (← e)
+
+pub asked-stop : (ps qs : List Question) (r : Refusal) → some r ≡ asked ps → some r ≡ asked (ps ++ qs)
+asked-stop ps qs r e = sym (asked-append ps qs ∙ rw (← e))
+
+module _ {t : Bool} (qs : List Question) where
+  pub only-yes : t ≡ true → only t qs ≡ qs
+  unfolding only
+  only-yes e = taken qs [] e
+
+  pub only-no : t ≡ false → only t qs ≡ []
+  unfolding only
+  only-no e = left qs [] e
