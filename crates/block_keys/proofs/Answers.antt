@@ -1,0 +1,143 @@
+-- What the functions over a schedule answer: the digest of a family, the key of a block and its keystream, the check of a verifier.
+-- Assumes nothing.
+use mathlib.Core.Path.{_≡_, refl, sym, ap, _∙_}
+use mathlib.Core.Bool.{Bool, true, false, _&&_}
+use mathlib.Core.List.{List, [], _∷_, _++_, append-nil}
+use Prim.Native.Nat.{ℕ, zero, suc, _+_, _-_, _≤_, _<_, min}
+use native.Mathlib.Nat.{le-refl, zero-add}
+use native.Mathlib.Omega.{arith}
+use lib.Bits.{bitXor}
+use lib.Dec.{eqb}
+use lib.ListN.{length, getD, take, drop, replicate, length-append}
+use lib.Seq.{take-append-le, take-all}
+use Rattle.laws.specs.Choice.{pick}
+use Rattle.laws.specs.Offsets.{tabulate}
+use Rattle.laws.proofs.Choice.{taken, left, skip, stop}
+use Rattle.laws.proofs.Offsets.{getD-tabulate}
+use Rattle.sensitive.specs.declared.DerivedKey.{DerivedKey}
+use Rattle.sensitive.specs.Derived.{derived}
+use Rattle.sha1.specs.Sha1.{sha1}
+use Rattle.md5.specs.Md5.{md5}
+use Rattle.rc4.specs.declared.Keystream.{Keystream}
+use Rattle.rc4.specs.declared.Made.{Made}
+use Rattle.rc4.specs.Rc4.{keyed, made, after, byteFrom, keystreamByte, Applies}
+use Rattle.rc4.proofs.Table.{made-keyed, after-none, byte-resumed}
+use Rattle.password_digest.specs.Digest.{sha1Of, md5Of, fits, Digests}
+use Rattle.rc4_office97.specs.Keys as office97
+use Rattle.rc4_office97.proofs.Laws as laws97
+use Rattle.rc4_cryptoapi.specs.Keys as cryptoapi
+use Rattle.rc4_cryptoapi.proofs.Laws as lawsApi
+use Rattle.block_keys.specs.declared.Kind.{Kind}
+use Rattle.block_keys.specs.declared.Kind.the-variants.{Office97, CryptoApi}
+use Rattle.block_keys.specs.declared.Schedule.{Schedule}
+use Rattle.block_keys.specs.declared.Scheduled.{Scheduled}
+use Rattle.block_keys.specs.declared.Rc4Lock.{Rc4Lock}
+use Rattle.block_keys.specs.BlockKeys.{scheduleOf, keyBy, blockKey, agree, under, digestBy, digestLen, verified}
+use Rattle.block_keys.specs.Lock.{Schedules}
+
+-- a digest that is made from another, and none from none
+module _ (digest password scratch bytes scratch′ : List ℕ) (size : ℕ) (ok : Bool) (d : Digests digest size password scratch ok bytes scratch′) where
+  pub digests-none : (other : List ℕ) (n : ℕ) → ok ≡ false → Digests other n password scratch false (replicate n 0) scratch′
+  digests-none other n e = let f : fits password scratch ≡ false = sym (d .told) ∙ e in record { told = sym f; digested = skip other f refl; wiped = d .wiped }
+
+  pub digests-some : (f : List ℕ → List ℕ) (n : ℕ) (bytes′ : List ℕ) → ok ≡ true → bytes′ ≡ f bytes → Digests (f digest) n password scratch true bytes′ scratch′
+  digests-some f n bytes′ e g =
+      let t : fits password scratch ≡ true = sym (d .told) ∙ e in
+      record { told = sym t; digested = g ∙ ap f (d .digested ∙ taken digest (replicate size 0) t) ∙ stop (replicate n 0) t; wiped = d .wiped }
+
+-- the schedule of a family
+module _ (lock : Rc4Lock) (salt password scratch scratch′ bytes : List ℕ) (ok : Bool) (r : Scheduled) where
+  pub schedules-97 : lock .kind ≡ Office97 → Digests (office97.truncated (md5Of password) salt ++ replicate 15 0) 20 password scratch ok bytes scratch′
+      → r ≡ record { ok = ok; schedule = record { kind = Office97; «key_bits» = lock .«key_bits»; digest = bytes } } → Schedules lock salt password scratch r scratch′
+  schedules-97 e d g = rw g (record { kind = sym e; bits = refl; digest = rw e d })
+
+  pub schedules-api : lock .kind ≡ CryptoApi → Digests (sha1Of salt password) 20 password scratch ok bytes scratch′
+      → r ≡ record { ok = ok; schedule = record { kind = CryptoApi; «key_bits» = lock .«key_bits»; digest = bytes } } → Schedules lock salt password scratch r scratch′
+  schedules-api e d g = rw g (record { kind = sym e; bits = refl; digest = rw e d })
+
+-- the key of a block
+module _ (s : Schedule) (block : ℕ) where
+  pub key-97 : s .kind ≡ Office97 → blockKey s block ≡ office97.blockKey (take 5 (s .digest)) block
+  unfolding blockKey
+  key-97 e = ap (λ (k : Kind). keyBy k (s .«key_bits») (s .digest) block) e
+
+  pub key-api : s .kind ≡ CryptoApi → blockKey s block ≡ cryptoapi.blockKey (s .digest) (s .«key_bits») block
+  unfolding blockKey
+  key-api e = ap (λ (k : Kind). keyBy k (s .«key_bits») (s .digest) block) e
+
+  pub key-length : (5 ≤ length (blockKey s block)) × (length (blockKey s block) ≤ 16)
+  key-length = by-kind (s .kind) refl
+    where
+      by-kind : (k : Kind) → s .kind ≡ k → (5 ≤ length (blockKey s block)) × (length (blockKey s block) ≤ 16)
+      by-kind Office97 e = rw (key-97 e) (laws97.block-key-length (take 5 (s .digest)) block)
+      by-kind CryptoApi e = rw (key-api e) (lawsApi.block-key-length (s .digest) (s .«key_bits») block)
+
+-- a key and the zeros behind it
+module _ (key : List ℕ) where
+  pub key-bytes : take (derived key .len) (derived key .bytes) ≡ key
+  key-bytes = take-append-le (length key) key (replicate (16 - length key) 0) (le-refl (length key)) ∙ take-all (length key) key (le-refl (length key))
+
+  pub key-room : derived key .len ≤ length (derived key .bytes)
+  key-room = let l = length-append key (replicate (16 - length key) 0) in omega arith
+
+  pub key-stream : 5 ≤ length key → length key ≤ 16 → made key .keystream ≡ keyed key
+  unfolding keyed
+  key-stream h k = ap (λ (m : Made). m .keystream) (sym (made-keyed key h k))
+
+-- lists given by offsets that agree
+tabulate-same : (f g : ℕ → ℕ) (n : ℕ) → ((i : ℕ) → f i ≡ g i) → tabulate f n ≡ tabulate g n
+unfolding tabulate
+tabulate-same f g zero h = refl
+tabulate-same f g (suc n) h = rw (tabulate-same f g n h, h n)
+
+agree-same : (a b c : List ℕ) (n : ℕ) → ((i : ℕ) → i < n → getD b i 0 ≡ getD c i 0) → agree a b n ≡ agree a c n
+unfolding agree
+agree-same a b c zero h = refl
+agree-same a b c (suc n) h = rw (agree-same a b c n (λ i k. h i (omega arith)), h n (omega arith))
+
+-- the digest of a family
+module _ (k : Kind) (plain digest : List ℕ) where
+  pub digest-by-97 : k ≡ Office97 → digest ≡ md5 plain → digest ≡ digestBy k plain
+  digest-by-97 e g = rw e g
+
+  pub digest-by-api : k ≡ CryptoApi → digest ≡ sha1 plain → digest ≡ digestBy k plain
+  digest-by-api e g = rw e g
+
+module _ (s : Schedule) (verifier hash : List ℕ) (hv : length verifier ≡ 16) (hh : length hash ≡ 20) where
+  abbrev key : List ℕ
+  key = blockKey s 0
+
+  -- a keystream over a list into zeros of its length, from a position on
+  ran : (from n : ℕ) (m d d′ : List ℕ) (k k′ : Keystream) → k ≡ after (keyed key) from → length m ≡ n → length d ≡ n → Applies k m d k′ d′ → d′ ≡ under key from m n
+  ran from n m d d′ k k′ e h g a =
+      let l : min (length m) (length d) ≡ n = rw (h, g) (least n) in
+      let r : drop n d ≡ [] = rw (← g) (none d) in
+      a .bytes
+      ∙ rw (l, r, append-nil (tabulate (λ (i : ℕ). bitXor (getD m i 0) (byteFrom k i)) n))
+      (tabulate-same (λ (i : ℕ). bitXor (getD m i 0) (byteFrom k i)) (λ (i : ℕ). bitXor (getD m i 0) (keystreamByte key (from + i))) n
+      (λ i. ap (bitXor (getD m i 0)) (ap (λ (q : Keystream). byteFrom q i) e ∙ byte-resumed (keyed key) from i)))
+    where
+      least : (n : ℕ) → min n n ≡ n
+      least n = omega arith
+
+      none : (xs : List ℕ) → drop (length xs) xs ≡ []
+      none [] = refl
+      none (x ∷ xs) = none xs
+
+  -- the two plain parts, by one keystream unbroken
+  module _ (k k′ k″ : Keystream) (zeros zeros′ plain plain′ : List ℕ) (e : k ≡ keyed key) (a : Applies k verifier zeros k′ plain) (b : Applies k′ hash zeros′ k″ plain′) (z : length zeros ≡ 16) (z′ : length zeros′ ≡ 20) where
+    first-part : plain ≡ under key 0 verifier 16
+    first-part = ran 0 16 verifier zeros plain k k′ (e ∙ after-none (keyed key)) hv z a
+
+    second-part : plain′ ≡ under key 16 hash 20
+    second-part = ran 16 20 hash zeros′ plain′ k′ k″ (a .keystream ∙ rw (hv, z, e)) hh z′ b
+
+    pub checked : (n : ℕ) (digest : List ℕ) (r : Bool) → n ≡ digestLen (s .kind) → n ≤ 20 → digest ≡ digestBy (s .kind) plain → r ≡ agree digest plain′ n → r ≡ verified s verifier hash
+    unfolding verified
+    checked n digest r en le ed er =
+        er
+        ∙ agree-same digest plain′ (under key 16 hash n) n (λ i h. ap (λ (l : List ℕ). getD l i 0) second-part ∙ at 20 i (omega arith) ∙ sym (at n i h))
+        ∙ rw (ed, first-part, en)
+      where
+        at : (m i : ℕ) → i < m → getD (under key 16 hash m) i 0 ≡ bitXor (getD hash i 0) (keystreamByte key (16 + i))
+        at m i h = getD-tabulate (λ (j : ℕ). bitXor (getD hash j 0) (keystreamByte key (16 + j))) m i 0 h

@@ -1,0 +1,4 @@
+pub mod Answers
+pub mod Blocks
+pub mod Parts
+pub mod Schemes
