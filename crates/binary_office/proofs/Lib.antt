@@ -1,4 +1,3 @@
 pub mod Headers
 pub mod Locks
-pub mod ShortBooks
 pub mod Walks

@@ -1,4 +1,3 @@
-pub mod Books
 pub mod Fields
 pub mod Look
 pub mod Walk

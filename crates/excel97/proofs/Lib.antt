@@ -1,0 +1,12 @@
+pub mod Answers
+pub mod Asked
+pub mod Blanked
+pub mod Keys
+pub mod PlainBytes
+pub mod Records
+pub mod SameBounds
+pub mod Settled
+pub mod ShortBooks
+pub mod Through
+pub mod TwoRuns
+pub mod Unlocked

@@ -1,0 +1,102 @@
+-- The loops that write the output record by record: what is written up to a record, and the record itself, is what is written up to the next one.
+-- Assumes nothing.
+use mathlib.Core.Path.{_≡_, refl, sym, ap, _∙_}
+use mathlib.Core.Bool.{Bool, true, false}
+use mathlib.Core.List.{List, _++_}
+use mathlib.Core.Option.{Option, none, some}
+use Prim.Native.Nat.{ℕ, _+_, _-_, _≤_, _<_, min}
+use native.Mathlib.Omega.{arith}
+use borrow.Author.Tests.{lt-ltb, le-ltb}
+use lib.ListN.{length, getD, take, drop}
+use Rattle.laws.specs.Choice.{pick}
+use Rattle.laws.proofs.Choice.{taken, left, either}
+use Rattle.laws.proofs.Written.{Written, written-join}
+use Rattle.binary_office.specs.declared.Step.the-variants as step
+use Rattle.binary_office.specs.Walk.{BiffRecord, stepAt, walk, clearLen}
+use Rattle.xor_obfuscation.specs.Xor.{deciphered, Deciphers}
+use Rattle.block_keys.proofs.Parts.{written-by, lent-part, part-size}
+use Rattle.excel97.specs.Open.{recordAt, inRecord, xorByte}
+use Rattle.excel97.specs.Steps.{throughAt}
+use Rattle.excel97.proofs.Records.{Reached, record-here, clear-within}
+
+-- a byte of a record: its own in header and clear part, else deciphered
+module _ (f : BiffRecord → ℕ → ℕ → ℕ) (r : BiffRecord) (o x : ℕ) where
+  pub own-byte : o < r .at + 4 + clearLen (r .id) (r .len) → inRecord f (some r) o x ≡ x
+  own-byte h = taken x (f r o x) (lt-ltb o (r .at + 4 + clearLen (r .id) (r .len)) h)
+
+  pub other-byte : r .at + 4 + clearLen (r .id) (r .len) ≤ o → inRecord f (some r) o x ≡ f r o x
+  other-byte h = left x (f r o x) (le-ltb o (r .at + 4 + clearLen (r .id) (r .len)) h)
+
+module _ (s : List ℕ) (f : BiffRecord → ℕ → ℕ → ℕ) (at id len : ℕ) (w : Reached s at) (e : stepAt s at ≡ step.Record id len) (d d₁ d₂ : List ℕ) (before : Written (throughAt s f) 0 at d d₁) where
+  here : (o : ℕ) → at ≤ o → o < at + 4 + len → throughAt s f o ≡ inRecord f (some (record { at = at; id = id; len = len })) o (getD s o 0)
+  here o h k = ap (λ (r : Option BiffRecord). inRecord f r o (getD s o 0)) (record-here s at id len w e o h k)
+
+  -- a record that is written whole
+  pub through-record : Written (λ (o : ℕ). inRecord f (some (record { at = at; id = id; len = len })) o (getD s o 0)) at (at + 4 + len) d₁ d₂ → Written (throughAt s f) 0 (at + 4 + len) d d₂
+  through-record v =
+      written-join (throughAt s f) 0 at (at + 4 + len) d d₁ d₂ (omega arith) (omega arith) before
+      (written-by (λ (o : ℕ). inRecord f (some (record { at = at; id = id; len = len })) o (getD s o 0)) (throughAt s f) at (at + 4 + len) d₁ d₂ (λ o h k. sym (here o h k)) v)
+
+-- a record of which only header and clear part are written, over what the output held
+module _ (s : List ℕ) (at id len : ℕ) (w : Reached s at) (e : stepAt s at ≡ step.Record id len) (d d₁ d₂ : List ℕ) (n : ℕ) (en : n ≡ at + 4 + clearLen id len) where
+  abbrev held : BiffRecord → ℕ → ℕ → ℕ
+  held r o x = getD d o 0
+
+  pub through-kept : Written (throughAt s held) 0 at d d₁ → Written (λ (o : ℕ). getD s o 0) at n d₁ d₂ → Written (throughAt s held) 0 (at + 4 + len) d d₂
+  through-kept before v =
+      let c = clear-within id len in
+      through-record s held at id len w e d d₁ d₂ before
+      (record {
+        same = v .same;
+        before = v .before;
+        inside = λ o h k.
+            either n o
+            (λ m. v .after o m ∙ before .after o h ∙ sym (other-byte held (record { at = at; id = id; len = len }) o (getD s o 0) (rw (← en) m)))
+            (λ m. v .inside o h m ∙ sym (own-byte held (record { at = at; id = id; len = len }) o (getD s o 0) (rw (← en) m)));
+        after = λ o h. v .after o (omega arith);
+      })
+
+-- a record under XOR: header and clear part are copied, and what is behind them is deciphered in its place
+module _ (s array d d₁ ys : List ℕ) (at id len : ℕ) (clear start stop : ℕ) (inside : at + 4 + len ≤ length s) (room : length s ≤ length d) (ec : clear ≡ clearLen id len)
+    (es : start ≡ at + 4 + clear) (et : stop ≡ at + 4 + len) (front : Written (λ (o : ℕ). getD s o 0) at start d d₁)
+    (part : Deciphers array (stop + clear) (take (stop - start) (drop start s)) (take (stop - start) (drop start d₁)) ys) where
+  abbrev it : BiffRecord
+  it = record { at = at; id = id; len = len }
+
+  abbrev target : ℕ → ℕ
+  target o = inRecord (xorByte array) (some it) o (getD s o 0)
+
+  least : clear ≤ len
+  least = rw ec (clear-within id len)
+
+  fits-s : start + (stop - start) ≤ length s
+  fits-s = let c = least in omega arith
+
+  fits-d : start + (stop - start) ≤ length d₁
+  fits-d = let c = least in let l = front .same in omega arith
+
+  -- a byte behind the clear part
+  byte-is : (o : ℕ) → start ≤ o → deciphered array (stop + clear) (o - start) (getD s o 0) ≡ target o
+  unfolding xorByte
+  byte-is o h =
+      let past : at + 4 + clearLen id len ≤ o = rw (← ec, ← es) h in
+      rw (et, es, ec) (sym (other-byte (xorByte array) it o (getD s o 0) past))
+
+  behind : Written target start (start + (stop - start)) d₁ (take start d₁ ++ (ys ++ drop (stop - start) (drop start d₁)))
+  behind =
+      let n : min (length (take (stop - start) (drop start s))) (length (take (stop - start) (drop start d₁))) ≡ stop - start = rw (part-size s start (stop - start) fits-s, part-size d₁ start (stop - start) fits-d) (same (stop - start)) in
+      written-by (λ (o : ℕ). deciphered array (stop + clear) (o - start) (getD s o 0)) target start (start + (stop - start)) d₁ (take start d₁ ++ (ys ++ drop (stop - start) (drop start d₁))) (λ o h k. byte-is o h)
+      (lent-part (λ (i x : ℕ). deciphered array (stop + clear) i x) s d₁ ys start (stop - start) fits-s fits-d (rw n at (part .bytes)))
+    where
+      same : (n : ℕ) → min n n ≡ n
+      same n = omega arith
+
+  pub xor-record : Written target at (at + 4 + len) d (take start d₁ ++ (ys ++ drop (stop - start) (drop start d₁)))
+  xor-record =
+      let l = front .same in
+      let c = least in
+      let e : start + (stop - start) ≡ at + 4 + len = omega arith in
+      rw (← e)
+      (written-join target at start (start + (stop - start)) d d₁ (take start d₁ ++ (ys ++ drop (stop - start) (drop start d₁))) (omega arith) (omega arith)
+      (written-by (λ (o : ℕ). getD s o 0) target at start d d₁ (λ o h k. sym (own-byte (xorByte array) it o (getD s o 0) (rw (← ec, ← es) k))) front)
+      behind)

@@ -1,0 +1,53 @@
+-- `excel97::copy` meets its contract: one store more a turn.
+-- Assumes nothing.
+use mathlib.Core.Path.{_≡_, refl}
+use Prim.Native.Nat.{ℕ, _-_, _≤_}
+use native.Mathlib.Omega.{arith}
+use lib.ListN.{length, getD}
+use borrow.Author.Needs.{needs}
+use Rattle.laws.proofs.Written.{Written, written-none, written-more}
+use Rattle.excel97.proofs.copy.Statement.{statement}
+use Rattle.excel97.proofs.copy.Tie as tie
+
+abbrev Inv-loop : tie.InvT-loop
+Inv-loop src from to dst₀ i₀ dst i = (from ≤ i) × (i ≤ to) × Written (λ (o : ℕ). getD src o 0) from i dst₀ dst
+
+abbrev μ-loop : tie.MeasureT-loop
+μ-loop src from to dst₀ i₀ dst i = to - i
+
+loop-holds : tie.Need-loop-holds Inv-loop μ-loop
+loop-holds c = (search needs, search needs, written-none _ _ _)
+
+loop-again : tie.Need-loop-again Inv-loop μ-loop
+loop-again c =
+    let l = c .before .before .loop in
+    let p = c .before .before .before .pre in
+    let h = l .inv .0 in
+    let k = l .inv .1 in
+    (search needs, search needs, written-more (λ (o : ℕ). getD (c .before .before .before .args .src .now) o 0) (c .before .before .before .args .from) (l .i) (c .before .before .before .args .dst .now) (l .dst) _ h (search needs) refl (l .inv .2))
+
+same-length : tie.Need-same-length Inv-loop μ-loop
+same-length c = c .before .loop .inv .2 .same
+
+returns : tie.Need-returns Inv-loop μ-loop
+returns c =
+    let l = c .before .loop in
+    let h = l .inv .1 in
+    let p = c .before .before .pre in
+    let e : l .i ≡ c .before .before .args .to = search needs in
+    rw (← e) (l .inv .2)
+
+pub copy-spec : {M : Type 1} → statement M
+copy-spec =
+    tie.close
+    (tie.spec
+    Inv-loop
+    μ-loop
+    loop-holds
+    (λ c. search needs)
+    (λ c. search needs)
+    (λ c. search needs)
+    (λ c. search needs)
+    loop-again
+    same-length
+    returns)

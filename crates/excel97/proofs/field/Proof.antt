@@ -1,0 +1,26 @@
+-- `excel97::field` meets its contract: the field is there.
+-- Assumes nothing.
+use mathlib.Core.Path.{_≡_, sym, _∙_}
+use Prim.Native.Nat.{ℕ, _+_, _≤_, _<_}
+use native.Mathlib.Omega.{arith}
+use borrow.Author.Needs.{needs}
+use Rattle.file_params.proofs.Fields.{field-value, field-cut}
+use Rattle.excel97.proofs.field.Statement.{statement}
+use Rattle.excel97.proofs.field.Tie as tie
+
+returns : tie.Need-returns
+returns c = field-value (c .before .before .before .before .before .args .body .now) (c .before .before .before .before .before .args .at) _ (sym (c .before .value .given .1) ∙ c .before .before .before .le16 .ensures)
+
+returns-2 : tie.Need-returns-2
+returns-2 c = absurd (no _ _ (c .before .before .before .before .pre) (field-cut (c .before .before .before .before .args .body .now) (c .before .before .before .before .args .at) (sym (c .enum-told .given .1) ∙ c .before .before .le16 .ensures)))
+  where
+    no : (a n : ℕ) → a + 2 ≤ n → n < a + 2 → ⊥
+    no a n h k = omega arith
+
+pub field-spec : {M : Type 1} → statement M
+field-spec = tie.close (tie.spec
+    (λ c κs. search needs)
+    (λ c. search needs)
+    (λ c. search needs)
+    returns
+    returns-2)

@@ -1,0 +1,70 @@
+-- `excel97::find_other` meets its contract: from each offset on, the first other id is that of the whole walk.
+-- Assumes nothing.
+use mathlib.Core.Path.{_≡_, refl, sym, ap, _∙_}
+use Prim.Native.Nat.{_-_, _≤_}
+use native.Mathlib.Omega.{arith}
+use borrow.Author.Tests.{not-true, not-false}
+use lib.ListN.{length}
+use Rattle.binary_office.specs.Walk.{walkAt, walk}
+use Rattle.binary_office.proofs.Walks.{record-within}
+use Rattle.file_params.specs.Questions.{otherId}
+use Rattle.excel97.specs.Steps.{otherOf}
+use borrow.Author.Needs.{needs}
+use Rattle.excel97.proofs.Records.{other-stop, other-here, other-on, records-end, records-fault, no-other}
+use Rattle.excel97.proofs.find_other.Statement.{statement}
+use Rattle.excel97.proofs.find_other.Tie as tie
+
+abbrev Inv-loop : tie.InvT-loop
+Inv-loop stream at₀ at = (at ≤ length stream) × (otherId (walkAt stream at .records) ≡ otherId (walk stream .records))
+
+abbrev μ-loop : tie.MeasureT-loop
+μ-loop stream at₀ at = length stream - at
+
+loop-holds : tie.Need-loop-holds Inv-loop μ-loop
+loop-holds c = (search needs, refl)
+
+returns : tie.Need-returns Inv-loop μ-loop
+returns c = ap otherOf (sym (other-stop (c .before .before .before .before .before .before .before .args .stream .now) (c .before .before .before .before .before .loop .at) _ _ (sym (c .before .before .before .before .step-at .ensures) ∙ c .before .before .id .given .1) (c .if1 .taken)) ∙ c .before .before .before .before .before .loop .inv .1)
+
+returns-2 : tie.Need-returns-2 Inv-loop μ-loop
+returns-2 c =
+    ap otherOf
+    (sym (other-here (c .before .before .before .before .before .before .before .before .before .args .stream .now) (c .before .before .before .before .before .before .before .loop .at) _ _ (sym (c .before .before .before .before .before .before .step-at .ensures) ∙ c .before .before .before .before .id .given .1) (c .before .before .if1 .left) (sym (c .before .never-encrypted .ensures) ∙ not-true _ (c .if2 .taken))) ∙ c .before .before .before .before .before .before .before .loop .inv .1)
+
+loop-less : tie.Need-loop-less Inv-loop μ-loop
+loop-less c =
+    let h = record-within (c .before .before .before .before .before .before .before .before .before .args .stream .now) (c .before .before .before .before .before .before .before .loop .at) _ _ (sym (c .before .before .before .before .before .before .step-at .ensures) ∙ c .before .before .before .before .id .given .1) in
+    omega arith
+
+loop-again : tie.Need-loop-again Inv-loop μ-loop
+loop-again c =
+    let e = sym (c .before .before .before .before .before .before .step-at .ensures) ∙ c .before .before .before .before .id .given .1 in
+    (record-within (c .before .before .before .before .before .before .before .before .before .args .stream .now) (c .before .before .before .before .before .before .before .loop .at) _ _ e, sym (other-on (c .before .before .before .before .before .before .before .before .before .args .stream .now) (c .before .before .before .before .before .before .before .loop .at) _ _ e (c .before .before .if1 .left) (sym (c .before .never-encrypted .ensures) ∙ not-false _ (c .if2 .left))) ∙ c .before .before .before .before .before .before .before .loop .inv .1)
+
+returns-3 : tie.Need-returns-3 Inv-loop μ-loop
+returns-3 c = ap otherOf (sym (no-other _ (records-fault (c .before .before .before .before .before .args .stream .now) (c .before .before .before .loop .at) _ (sym (c .before .before .step-at .ensures) ∙ c .enum-told .given .1))) ∙ c .before .before .before .loop .inv .1)
+
+returns-4 : tie.Need-returns-4 Inv-loop μ-loop
+returns-4 c = ap otherOf (sym (no-other _ (records-end (c .before .before .before .before .before .args .stream .now) (c .before .before .before .loop .at) (sym (c .before .before .step-at .ensures) ∙ c .enum-told2 .given .1))) ∙ c .before .before .before .loop .inv .1)
+
+pub find-other-spec : {M : Type 1} → statement M
+find-other-spec =
+    tie.close
+    (tie.spec
+    Inv-loop
+    μ-loop
+    loop-holds
+    (λ c κs. search needs)
+    (λ c. search needs)
+    returns
+    (λ c κs. search needs)
+    returns-2
+    (λ c. search needs)
+    (λ c. search needs)
+    (λ c. search needs)
+    loop-less
+    loop-again
+    (λ c. search needs)
+    returns-3
+    (λ c. search needs)
+    returns-4)

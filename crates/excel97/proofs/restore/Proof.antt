@@ -1,0 +1,83 @@
+-- `excel97::restore` meets its contract: the records up to the offset have their own headers and clear parts again.
+-- Assumes nothing.
+use mathlib.Core.Path.{_≡_, refl, sym, ap, _∙_}
+use Prim.Native.Nat.{ℕ, _+_, _-_, _≤_}
+use native.Mathlib.Omega.{arith}
+use lib.ListN.{length, getD}
+use Rattle.laws.proofs.Written.{Written, written-none}
+use Rattle.binary_office.specs.Walk.{BiffRecord}
+use Rattle.binary_office.proofs.Walks.{record-within}
+use Rattle.excel97.specs.Steps.{throughAt}
+use Rattle.excel97.proofs.Records.{clear-within, Reached, reached-none, reached-on, reached-fault, reached-end}
+use borrow.Author.Needs.{needs}
+use Rattle.excel97.proofs.Through.{through-kept}
+use Rattle.excel97.proofs.restore.Statement.{statement}
+use Rattle.excel97.proofs.restore.Tie as tie
+
+abbrev Inv-loop : tie.InvT-loop
+Inv-loop stream output₀ at₀ output at = Reached stream at × Written (throughAt stream (λ (r : BiffRecord) (o x : ℕ). getD output₀ o 0)) 0 at output₀ output
+
+abbrev μ-loop : tie.MeasureT-loop
+μ-loop stream output₀ at₀ output at = length stream - at
+
+loop-holds : tie.Need-loop-holds Inv-loop μ-loop
+loop-holds c = (reached-none _, written-none _ _ _)
+
+copy-requires : tie.Need-copy-requires Inv-loop μ-loop
+copy-requires c κs =
+    let h = record-within (c .before .before .before .before .before .before .before .before .before .args .stream .now) (c .before .before .before .before .before .before .loop .at) _ _ (sym (c .before .before .before .before .before .step-at .ensures) ∙ c .before .before .before .id .given .1) in
+    let k = c .before .clear-len .ensures in
+    let m = clear-within (c .before .before .before .id .given .0 .0) (c .before .before .before .id .given .0 .1 .0) in
+    let w = c .before .before .before .before .before .before .loop .inv .1 .same in
+    let p = c .before .before .before .before .before .before .before .before .before .pre .1 in
+    (omega arith, omega arith, omega arith)
+
+loop-less : tie.Need-loop-less Inv-loop μ-loop
+loop-less c =
+    let h = record-within (c .before .before .before .before .before .before .before .before .before .before .before .before .args .stream .now) (c .before .before .before .before .before .before .before .before .before .loop .at) _ _ (sym (c .before .before .before .before .before .before .before .before .step-at .ensures) ∙ c .before .before .before .before .before .before .id .given .1) in
+    omega arith
+
+loop-again : tie.Need-loop-again Inv-loop μ-loop
+loop-again c =
+    let e = sym (c .before .before .before .before .before .before .before .before .step-at .ensures) ∙ c .before .before .before .before .before .before .id .given .1 in (
+      reached-on (c .before .before .before .before .before .before .before .before .before .before .before .before .args .stream .now) (c .before .before .before .before .before .before .before .before .before .loop .at) _ _ (c .before .before .before .before .before .before .before .before .before .loop .inv .0) e,
+      through-kept (c .before .before .before .before .before .before .before .before .before .before .before .before .args .stream .now) (c .before .before .before .before .before .before .before .before .before .loop .at) _ _ (c .before .before .before .before .before .before .before .before .before .loop .inv .0) e (c .before .before .before .before .before .before .before .before .before .before .before .before .args .output .now) (c .before .before .before .before .before .before .before .before .before .loop .output) _ _ (ap (λ (n : ℕ). c .before .before .before .before .before .before .before .before .before .loop .at + 4 + n) (c .before .before .before .before .clear-len .ensures)) (c .before .before .before .before .before .before .before .before .before .loop .inv .1) (c .before .before .copy .ensures),
+    )
+
+same-length : tie.Need-same-length Inv-loop μ-loop
+same-length c = c .before .before .before .loop .inv .1 .same
+
+returns : tie.Need-returns Inv-loop μ-loop
+returns c = absurd (reached-fault (c .before .before .before .before .before .before .args .stream .now) (c .before .before .before .loop .at) (c .before .before .before .loop .inv .0) _ (sym (c .before .before .step-at .ensures) ∙ c .enum-told .given .1) (c .before .before .before .before .before .before .pre .0))
+
+same-length-2 : tie.Need-same-length-2 Inv-loop μ-loop
+same-length-2 c = c .before .before .before .loop .inv .1 .same
+
+returns-2 : tie.Need-returns-2 Inv-loop μ-loop
+returns-2 c = rw (← reached-end (c .before .before .before .before .before .before .args .stream .now) (c .before .before .before .loop .at) (c .before .before .before .loop .inv .0) (sym (c .before .before .step-at .ensures) ∙ c .enum-told2 .given .1)) (c .before .before .before .loop .inv .1)
+
+pub restore-spec : {M : Type 1} → statement M
+restore-spec =
+    tie.close
+    (tie.spec
+    Inv-loop
+    μ-loop
+    loop-holds
+    (λ c κs. search needs)
+    (λ c. search needs)
+    (λ c κs. search needs)
+    (λ c. search needs)
+    (λ c. search needs)
+    (λ c. search needs)
+    copy-requires
+    (λ c. search needs)
+    (λ c. search needs)
+    (λ c. search needs)
+    loop-less
+    loop-again
+    (λ c. search needs)
+    same-length
+    returns
+    (λ c. search needs)
+    same-length-2
+    returns-2)

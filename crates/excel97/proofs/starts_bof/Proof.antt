@@ -1,0 +1,29 @@
+-- `excel97::starts_bof` meets its contract: the first record is what stands at offset 0.
+-- Assumes nothing.
+use mathlib.Core.Path.{sym, _∙_}
+use Rattle.binary_office.specs.Walk.{walk}
+use borrow.Author.Needs.{needs}
+use Rattle.excel97.proofs.Records.{starts, records-end, records-fault, not-bof}
+use Rattle.excel97.proofs.starts_bof.Statement.{statement}
+use Rattle.excel97.proofs.starts_bof.Tie as tie
+
+returns : tie.Need-returns
+returns c = sym (starts (c .before .before .before .before .before .args .stream .now) 0 _ _ (sym (c .before .before .before .step-at .ensures) ∙ c .before .id .given .1))
+
+returns-2 : tie.Need-returns-2
+returns-2 c = sym (not-bof (walk (c .before .before .before .before .args .stream .now) .records) (records-fault (c .before .before .before .before .args .stream .now) 0 _ (sym (c .before .before .step-at .ensures) ∙ c .enum-told .given .1)))
+
+returns-3 : tie.Need-returns-3
+returns-3 c = sym (not-bof (walk (c .before .before .before .before .args .stream .now) .records) (records-end (c .before .before .before .before .args .stream .now) 0 (sym (c .before .before .step-at .ensures) ∙ c .enum-told2 .given .1)))
+
+pub starts-bof-spec : {M : Type 1} → statement M
+starts-bof-spec =
+    tie.close
+    (tie.spec
+    (λ c κs. search needs)
+    (λ c. search needs)
+    (λ c. search needs)
+    (λ c. search needs)
+    returns
+    returns-2
+    returns-3)

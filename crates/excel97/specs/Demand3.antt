@@ -1,0 +1,72 @@
+-- Demand 3: two passwords can part what is seen only by whether the check passes. Over any two runs that the contract of `open` allows.
+-- Assumes nothing.
+use mathlib.Core.Path.{_≡_}
+use Prim.Native.Nat.{ℕ, _+_, _≤_, _<_}
+use mathlib.Core.Bool.{true, false}
+use mathlib.Core.List.{List, [], _∷_}
+use mathlib.Core.Option.{some}
+use lib.Bits.{bitXor}
+use lib.ListN.{length, getD, take, drop}
+use Rattle.binary_office.specs.Walk.{BiffRecord, walk, clearLen}
+use Rattle.file_params.specs.declared.Refusal.{Refusal}
+use Rattle.file_params.specs.declared.Refusal.the-variants.{WrongPassword}
+use Rattle.file_params.specs.Questions.{filepass, filepassBody, structureOf}
+use Rattle.block_keys.specs.Lock.{lockOf, saltOf}
+use Rattle.excel97.specs.declared.Lock.the-variants.{Xor}
+use Rattle.excel97.specs.declared.Report.{Report}
+use Rattle.excel97.specs.declared.Answer.{Answer}
+use Rattle.excel97.specs.declared.Answer.the-variants.{Opened, Refused}
+use Rattle.excel97.specs.Open.{passes, keystream, recordAt, blanked, Opens}
+
+-- the record bounds: header offsets and body ends, in order
+pub record Bounds : Type 0 where
+  pub header : ℕ
+  pub end : ℕ
+
+abbrev pub boundsOf : List BiffRecord → List Bounds
+boundsOf [] = []
+boundsOf (r ∷ rs) = record { header = r .at; end = r .at + 4 + r .len } ∷ boundsOf rs
+
+-- what one run leaves, where it opened the stream under a password with a report
+pub record Plain (stream password output′ : List ℕ) (told : Report) : Type 0 where
+  -- "Up to there each output has the stream's record bounds,"
+  pub bounds : boundsOf (walk (take (length stream) output′) .records) ≡ boundsOf (walk stream .records)
+  pub ends : walk (take (length stream) output′) .ends ≡ walk stream .ends
+  -- "and the stream's own bytes in every header and clear part,"
+  pub own : (r : BiffRecord) (o : ℕ) → recordAt (walk stream .records) o ≡ some r → o < r .at + 4 + clearLen (r .id) (r .len)
+      → blanked (filepass (walk stream .records)) o ≡ false → getD output′ o 0 ≡ getD stream o 0
+  -- "save that the first FILEPASS has its id and body zeroed."
+  pub zeroed : (o : ℕ) → o < length stream → blanked (filepass (walk stream .records)) o ≡ true → getD output′ o 0 ≡ 0
+  -- "Under RC4 each other byte up to there equals the stream's byte exclusive-or the keystream byte for its offset, which password, salt, lock, key size and
+  -- offset alone determine."
+  pub deciphered : (told .lock ≡ Xor → ⊥) → (r : BiffRecord) (o : ℕ) → recordAt (walk stream .records) o ≡ some r → r .at + 4 + clearLen (r .id) (r .len) ≤ o
+      → blanked (filepass (walk stream .records)) o ≡ false
+      → let structure = structureOf (filepassBody stream) in
+      getD output′ o 0 ≡ bitXor (getD stream o 0) (keystream password (saltOf structure) (lockOf structure .kind) (lockOf structure .«key_bits») o)
+
+-- what the check decides of one run, where no other refusal was given
+pub record Decided (stream password : List ℕ) (answer : Answer) : Type 0 where
+  pub fails : answer ≡ Refused WrongPassword → passes (filepassBody stream) password ≡ false
+  pub failed : passes (filepassBody stream) password ≡ false → answer ≡ Refused WrongPassword
+  pub succeeds : (told : Report) → answer ≡ Opened told → passes (filepassBody stream) password ≡ true
+  pub succeeded : passes (filepassBody stream) password ≡ true → (told : Report) × (answer ≡ Opened told)
+
+-- "Whatever stream, scratch and output are lent, and whichever two passwords are tried on equal copies of them, both valid UTF-8 within 1,024 bytes, one fact
+-- alone can part their refusals and reports: whether demand 2's password check passes."
+pub record Demand3 (stream scratch output p q : List ℕ) (a b : Answer) (scratch₁ output₁ scratch₂ output₂ : List ℕ) : Type 0 where
+  -- "One gets a refusal other than 27 exactly when the other gets the same, details included;"
+  pub refusal-to : (r : Refusal) → (r ≡ WrongPassword → ⊥) → a ≡ Refused r → b ≡ Refused r
+  pub refusal-from : (r : Refusal) → (r ≡ WrongPassword → ⊥) → b ≡ Refused r → a ≡ Refused r
+  -- "else each gets 27 exactly when its check fails, and a report when it passes."
+  pub else-first : ((r : Refusal) → a ≡ Refused r → r ≡ WrongPassword) → Decided stream p a
+  pub else-second : ((r : Refusal) → b ≡ Refused r → r ≡ WrongPassword) → Decided stream q b
+  -- "Two refused leave scratch and output alike in every byte."
+  pub refused-scratch : (r s : Refusal) → a ≡ Refused r → b ≡ Refused s → scratch₁ ≡ scratch₂
+  pub refused-output : (r s : Refusal) → a ≡ Refused r → b ≡ Refused s → output₁ ≡ output₂
+  -- "Two that pass give the same report, scratch and output past the stream's length."
+  pub passed-report : (x y : Report) → a ≡ Opened x → b ≡ Opened y → x ≡ y
+  pub passed-scratch : (x y : Report) → a ≡ Opened x → b ≡ Opened y → scratch₁ ≡ scratch₂
+  pub passed-rest : (x y : Report) → a ≡ Opened x → b ≡ Opened y → drop (length stream) output₁ ≡ drop (length stream) output₂
+  -- the last two sentences, of each
+  pub plain-first : (x : Report) → a ≡ Opened x → Plain stream p output₁ x
+  pub plain-second : (x : Report) → b ≡ Opened x → Plain stream q output₂ x

@@ -1,0 +1,4 @@
+pub mod Books
+pub mod Demand3
+pub mod Open
+pub mod Steps

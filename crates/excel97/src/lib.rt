@@ -1,0 +1,476 @@
+// Open: the plain stream of a protected workbook, from the Rust source's excel97.rs, with its names. The compound
+// file around the stream is left out, `book.clone()` is the output that the caller lends, and password text stands in
+// the lent scratch.
+ghost use mathlib.Core.Path.{_≡_};
+ghost use Prim.Native.Nat.{ℕ, _+_, _≤_};
+ghost use mathlib.Core.Bool.{true};
+ghost use mathlib.Core.List.{_++_};
+ghost use lib.Bits.{bitXor};
+ghost use lib.ListN.{length, getD, drop, replicate};
+ghost use mathlib.Core.Option.{none, some};
+ghost use Rattle.laws.specs.Choice.{pick};
+ghost use Rattle.laws.proofs.Written.{Written};
+ghost use Rattle.sensitive.specs.Utf8.{wellFormed};
+ghost use Rattle.sensitive.specs.Ansi.{ansi};
+ghost use Rattle.binary_office.specs.declared.WalkEnd.the-variants.{Clean};
+ghost use Rattle.binary_office.specs.Walk.{BiffRecord, walk};
+ghost use Rattle.file_params.specs.declared.Refusal.the-variants.{WrongPassword};
+ghost use Rattle.file_params.specs.Questions.{asked, lent, book, lock, startsBof, filepass, otherId, le16, filepassBody, typeOf, structureOf};
+ghost use Rattle.block_keys.specs.BlockKeys.{blockKey, keystreamAt};
+ghost use Rattle.block_keys.specs.Lock.{lockOf};
+ghost use Rattle.excel97.specs.declared.Answer.the-variants.{Opened, Refused};
+ghost use Rattle.excel97.specs.Open.{xorMatches, arrayOf, xorByte, inRecord, byKind, Opens};
+ghost use Rattle.excel97.specs.Steps.{throughAt, Blanks, Unlocks, Ready, Settles, checkedOf, foundOf, otherOf, bookBy, bookOf, surveyedOf, schemeBy, schemeOf};
+
+// The lock of a workbook.
+pub enum Lock {
+    Xor,
+    Office97,
+    CryptoApi,
+}
+
+// What is told of a stream that was opened.
+pub struct Report {
+    pub records: usize,
+    pub lock: Lock,
+    pub key_bits: u32,
+    pub summary_sealed: bool,
+}
+
+// What came of opening a stream.
+pub enum Answer {
+    Opened(Report),
+    Refused(file_params::Refusal),
+}
+
+// Whether a group of questions was passed.
+pub enum Checked {
+    Fine,
+    Refused(file_params::Refusal),
+}
+
+// Where the first FILEPASS is: the offset of its header, and the length of its body.
+pub enum Found {
+    At(usize, u16),
+    Nothing,
+}
+
+// The first id before FILEPASS that is not one of the seven.
+pub enum Other {
+    Id(u16),
+    InOrder,
+}
+
+// A stream whose records are in order: how many, and where the first FILEPASS is.
+pub struct Book {
+    pub records: usize,
+    pub at: usize,
+    pub len: u16,
+}
+
+// What came of walking a stream.
+pub enum Surveyed {
+    Locked(Book),
+    Refused(file_params::Refusal),
+}
+
+// What came of reading a FILEPASS body.
+pub enum Scheme {
+    Xor,
+    Rc4(block_keys::Rc4Lock),
+    Refused(file_params::Refusal),
+}
+
+// Asks questions 1 to 5.
+fn check_lent(password: &[u8], stream: usize, scratch: usize, output: usize) -> Checked
+    ensures { λ r. ⌜ r ≡ checkedOf (asked (lent (now (password .entry)) stream scratch output)) ⌝ }
+{
+    if limits::PASSWORD_MAX_LEN < password.len() {
+        return Checked::Refused(file_params::Refusal::PasswordTooLong);
+    }
+    if !sensitive::well_formed(password) {
+        return Checked::Refused(file_params::Refusal::PasswordMalformed);
+    }
+    if scratch < limits::SCRATCH_LEN {
+        return Checked::Refused(file_params::Refusal::ScratchShort);
+    }
+    if limits::LEGACY_STREAM_READ_CAP < stream {
+        return Checked::Refused(file_params::Refusal::StreamTooLarge);
+    }
+    if output < stream {
+        return Checked::Refused(file_params::Refusal::OutputShort);
+    }
+    Checked::Fine
+}
+
+// Whether the first record is BOF.
+fn starts_bof(stream: &[u8]) -> bool
+    ensures { λ r. ⌜ r ≡ startsBof (walk (now (stream .entry)) .records) ⌝ }
+{
+    match binary_office::step_at(stream, 0) {
+        binary_office::Step::Record(id, _) => id == 0x0809,
+        binary_office::Step::Fault(_) => false,
+        binary_office::Step::End => false,
+    }
+}
+
+// Finds the first FILEPASS.
+fn find_filepass(stream: &[u8]) -> Found
+    ensures { λ r. ⌜ r ≡ foundOf (filepass (walk (now (stream .entry)) .records)) ⌝ }
+{
+    let mut at: usize = 0;
+    loop {
+        match binary_office::step_at(stream, at) {
+            binary_office::Step::Record(id, len) => {
+                if id == 0x002F {
+                    return Found::At(at, len);
+                }
+                at = at + 4 + (len as usize);
+            }
+            binary_office::Step::Fault(_) => return Found::Nothing,
+            binary_office::Step::End => return Found::Nothing,
+        }
+    }
+}
+
+// Finds the first id before FILEPASS that is not one of the seven.
+fn find_other(stream: &[u8]) -> Other
+    ensures { λ r. ⌜ r ≡ otherOf (otherId (walk (now (stream .entry)) .records)) ⌝ }
+{
+    let mut at: usize = 0;
+    loop {
+        match binary_office::step_at(stream, at) {
+            binary_office::Step::Record(id, len) => {
+                if id == 0x002F {
+                    return Other::InOrder;
+                }
+                if !binary_office::never_encrypted(id) {
+                    return Other::Id(id);
+                }
+                at = at + 4 + (len as usize);
+            }
+            binary_office::Step::Fault(_) => return Other::InOrder,
+            binary_office::Step::End => return Other::InOrder,
+        }
+    }
+}
+
+// Copies the bytes of src from an offset up to another to the same places of dst.
+fn copy(src: &[u8], from: usize, to: usize, dst: &mut [u8])
+    requires { ⌜ (from ≤ to) × (to ≤ length (now src)) × (to ≤ length (now dst)) ⌝ }
+    ensures { λ _. ⌜ Written (λ (o : ℕ). getD (now (src .entry)) o 0) from to (now (dst .entry)) (now (dst .exit)) ⌝ }
+{
+    let mut i = from;
+    while i < to {
+        dst[i] = src[i];
+        i += 1;
+    }
+}
+
+// Zeroes the bytes from an offset up to another.
+fn zero(dst: &mut [u8], from: usize, to: usize)
+    requires { ⌜ (from ≤ to) × (to ≤ length (now dst)) ⌝ }
+    ensures { λ _. ⌜ Written (λ (o : ℕ). 0) from to (now (dst .entry)) (now (dst .exit)) ⌝ }
+{
+    let mut i = from;
+    while i < to {
+        dst[i] = 0;
+        i += 1;
+    }
+}
+
+// Asks questions 7 to 9 of a stream of so many records.
+fn in_order(stream: &[u8], records: usize) -> Surveyed
+    ensures { λ r. ⌜ r ≡ surveyedOf (bookBy records (filepass (walk (now (stream .entry)) .records))) (asked (drop 1 (book (now (stream .entry))))) ⌝ }
+{
+    if !starts_bof(stream) {
+        return Surveyed::Refused(file_params::Refusal::WorkbookBofMissing);
+    }
+    let Found::At(at, len) = find_filepass(stream) else {
+        return Surveyed::Refused(file_params::Refusal::NotEncrypted);
+    };
+    match find_other(stream) {
+        Other::Id(id) => Surveyed::Refused(file_params::Refusal::FilepassOutOfOrder(id)),
+        Other::InOrder => Surveyed::Locked(Book { records, at, len }),
+    }
+}
+
+// Asks questions 6 to 9: the record count and the place of the first FILEPASS, or the first refusal.
+fn survey(stream: &[u8]) -> Surveyed
+    ensures { λ r. ⌜ r ≡ surveyedOf (bookOf (now (stream .entry))) (asked (book (now (stream .entry)))) ⌝ }
+{
+    let walked = binary_office::walk(stream);
+    let end = walked.end;
+    match end {
+        binary_office::WalkEnd::Fault(at) =>
+            Surveyed::Refused(file_params::Refusal::BiffRecordUnreadable(at)),
+        binary_office::WalkEnd::Clean => in_order(stream, walked.records),
+    }
+}
+
+// Asks questions 10 to 26: the lock of a FILEPASS body, or the first refusal.
+fn find_lock(body: &[u8]) -> Scheme
+    ensures { λ r. ⌜ r ≡ schemeOf (schemeBy (now (body .entry))) (asked (lock (now (body .entry)))) ⌝ }
+{
+    let have = body.len();
+    let binary_office::Field16::Value(kind) = binary_office::le16(body, 0) else {
+        return Scheme::Refused(file_params::Refusal::FilepassTruncated(have, 2));
+    };
+    if kind == 0 {
+        if have < 6 {
+            return Scheme::Refused(file_params::Refusal::FilepassTruncated(have - 2, 4));
+        }
+        return Scheme::Xor;
+    }
+    if 1 < kind {
+        return Scheme::Refused(file_params::Refusal::FilepassEncryptionType(kind));
+    }
+    match block_keys::scheme_of(&body[2..]) {
+        block_keys::Scheme::Refused(refusal) => Scheme::Refused(refusal),
+        block_keys::Scheme::Locked(rc4_lock) => Scheme::Rc4(rc4_lock),
+    }
+}
+
+// A password tried on an XOR lock: whether it passes, and the array that it makes.
+pub struct Tried {
+    pub ok: bool,
+    pub array: [u8; 16],
+}
+
+// The field of two bytes at an offset of a FILEPASS body.
+fn field(body: &[u8], at: usize) -> u16
+    requires { ⌜ at + 2 ≤ length (now body) ⌝ }
+    ensures { λ r. ⌜ r ≡ le16 (now (body .entry)) at ⌝ }
+{
+    match binary_office::le16(body, at) {
+        binary_office::Field16::Value(value) => value,
+        binary_office::Field16::Short => 0,
+    }
+}
+
+// Tries a password on an XOR lock: key and verifier must both match those of the FILEPASS body.
+fn try_xor(body: &[u8], password: &[u8]) -> Tried
+    requires { ⌜ 6 ≤ length (now body) ⌝ }
+    ensures { λ r. ⌜ (r .ok ≡ xorMatches (now (body .entry)) (ansi (now (password .entry)))) × (r .array ≡ arrayOf (ansi (now (password .entry)))) ⌝ }
+{
+    let ansi = sensitive::ansi_password(password);
+    let bytes = ansi.bytes;
+    let len = ansi.len;
+    let xor_obfuscation::XorKey::Key(key) = xor_obfuscation::xor_key(&bytes[..len]) else {
+        return Tried {
+            ok: false,
+            array: [0u8; 16],
+        };
+    };
+    let array = xor_obfuscation::xor_array(&bytes[..len], key);
+    let verifier = xor_obfuscation::password_verifier(&bytes[..len]);
+    let ok = (key == field(body, 2)) & (verifier == field(body, 4));
+    Tried { ok, array }
+}
+
+// Deciphers one record under XOR: its header and clear part are the stream's own.
+fn unxor_record(stream: &[u8], array: &[u8; 16], at: usize, id: u16, len: u16, output: &mut [u8])
+    requires { ⌜ (at + 4 + len ≤ length (now stream)) × (length (now stream) ≤ length (now output)) ⌝ }
+    ensures { λ _. ⌜ Written (λ (o : ℕ). inRecord (xorByte (now (array .entry))) (some (record { at = at; id = id; len = len })) o (getD (now (stream .entry)) o 0)) at (at + 4 + len) (now (output .entry)) (now (output .exit)) ⌝ }
+{
+    let clear = binary_office::clear_len(id, len) as usize;
+    let start = at + 4 + clear;
+    let end = at + 4 + (len as usize);
+    copy(stream, at, start, output);
+    xor_obfuscation::decrypt(
+        array,
+        end + clear,
+        &stream[start..end],
+        &mut output[start..end],
+    );
+}
+
+// Deciphers a stream under XOR, record by record.
+fn unxor(stream: &[u8], array: &[u8; 16], output: &mut [u8])
+    requires { ⌜ (walk (now stream) .ends ≡ Clean) × (length (now stream) ≤ length (now output)) ⌝ }
+    ensures { λ _. ⌜ Written (throughAt (now (stream .entry)) (xorByte (now (array .entry)))) 0 (length (now (stream .entry))) (now (output .entry)) (now (output .exit)) ⌝ }
+{
+    let mut at: usize = 0;
+    loop {
+        match binary_office::step_at(stream, at) {
+            binary_office::Step::Record(id, len) => {
+                unxor_record(stream, array, at, id, len, output);
+                at = at + 4 + (len as usize);
+            }
+            binary_office::Step::Fault(_) => return,
+            binary_office::Step::End => return,
+        }
+    }
+}
+
+// Puts the headers and clear parts back into a stream whose every byte was deciphered.
+fn restore(stream: &[u8], output: &mut [u8])
+    requires { ⌜ (walk (now stream) .ends ≡ Clean) × (length (now stream) ≤ length (now output)) ⌝ }
+    ensures { λ _. ⌜ Written (throughAt (now (stream .entry)) (λ (r : BiffRecord) (o x : ℕ). getD (now (output .entry)) o 0)) 0 (length (now (stream .entry))) (now (output .entry)) (now (output .exit)) ⌝ }
+{
+    let mut at: usize = 0;
+    loop {
+        match binary_office::step_at(stream, at) {
+            binary_office::Step::Record(id, len) => {
+                let clear = binary_office::clear_len(id, len) as usize;
+                copy(stream, at, at + 4 + clear, output);
+                at = at + 4 + (len as usize);
+            }
+            binary_office::Step::Fault(_) => return,
+            binary_office::Step::End => return,
+        }
+    }
+}
+
+// Gives the first FILEPASS id 0000 and a zero body.
+fn blank(output: &mut [u8], at: usize, len: u16)
+    requires { ⌜ at + 4 + len ≤ length (now output) ⌝ }
+    ensures { λ _. ⌜ Blanks at len (now (output .entry)) (now (output .exit)) ⌝ }
+{
+    zero(output, at, at + 2);
+    zero(output, at + 4, at + 4 + (len as usize));
+}
+
+// Tries a password on an XOR lock, and opens the stream into the output where it passes.
+fn unlock_xor(stream: &[u8], at: usize, len: u16, password: &[u8], output: &mut [u8]) -> bool
+    requires { ⌜ Ready (now stream) (now output) at len × (typeOf (filepassBody (now stream)) ≡ 0) × (6 ≤ length (filepassBody (now stream))) ⌝ }
+    ensures { λ r. ⌜ Unlocks (now (stream .entry)) (now (password .entry)) (now (output .entry)) r (now (output .exit)) ⌝ }
+{
+    let start = at + 4;
+    let end = start + (len as usize);
+    let tried = try_xor(&stream[start..end], password);
+    if !tried.ok {
+        return false;
+    }
+    let array = tried.array;
+    unxor(stream, &array, output);
+    blank(output, at, len);
+    true
+}
+
+// Deciphers a stream under RC4: every byte, and then headers and clear parts are put back.
+fn unrc4(stream: &[u8], schedule: block_keys::Schedule, output: &mut [u8])
+    requires { ⌜ (walk (now stream) .ends ≡ Clean) × (length (now stream) ≤ length (now output)) ⌝ }
+    ensures { λ _. ⌜ Written (throughAt (now (stream .entry)) (λ (r : BiffRecord) (o x : ℕ). bitXor x (keystreamAt 1024 (blockKey schedule) o))) 0 (length (now (stream .entry))) (now (output .entry)) (now (output .exit)) ⌝ }
+{
+    block_keys::decrypt_in_blocks(schedule, 1024, stream, output);
+    restore(stream, output);
+}
+
+// Tries a password on an RC4 lock, and opens the stream into the output where it passes.
+fn unlock_rc4(
+    stream: &[u8],
+    at: usize,
+    len: u16,
+    lock: block_keys::Rc4Lock,
+    password: &[u8],
+    scratch: &mut [u8],
+    output: &mut [u8],
+) -> bool
+    requires { ⌜ Ready (now stream) (now output) at len × (typeOf (filepassBody (now stream)) ≡ 1) × (2 ≤ length (filepassBody (now stream))) × (lock ≡ lockOf (structureOf (filepassBody (now stream)))) × (wellFormed (now password) ≡ true) × (64 ≤ length (now scratch)) ⌝ }
+    ensures { λ r. ⌜ Unlocks (now (stream .entry)) (now (password .entry)) (now (output .entry)) r (now (output .exit)) × (now (scratch .exit) ≡ replicate 64 0 ++ drop 64 (now (scratch .entry))) ⌝ }
+{
+    let start = at + 4;
+    let end = start + (len as usize);
+    let body = &stream[start..end];
+    let structure = &body[2..];
+    let scheduled = block_keys::schedule_of(structure, lock, password, scratch);
+    if !scheduled.ok {
+        return false;
+    }
+    let schedule = scheduled.schedule;
+    if !block_keys::verify(structure, lock, schedule) {
+        return false;
+    }
+    unrc4(stream, schedule, output);
+    blank(output, at, len);
+    true
+}
+
+// The answer of a password that was tried.
+fn answer_of(ok: bool, report: Report) -> Answer
+    ensures { λ r. ⌜ r ≡ pick ok (Opened report) (Refused WrongPassword) ⌝ }
+{
+    if ok {
+        Answer::Opened(report)
+    } else {
+        Answer::Refused(file_params::Refusal::WrongPassword)
+    }
+}
+
+// The lock of a family.
+fn lock_of(kind: block_keys::Kind) -> Lock
+    ensures { λ r. ⌜ r ≡ byKind kind ⌝ }
+{
+    match kind {
+        block_keys::Kind::Office97 => Lock::Office97,
+        block_keys::Kind::CryptoApi => Lock::CryptoApi,
+    }
+}
+
+// Asks questions 10 to 27 of a stream whose records are in order, and opens it where they are passed.
+fn open_book(
+    stream: &[u8],
+    found: Book,
+    password: &[u8],
+    scratch: &mut [u8],
+    output: &mut [u8],
+) -> Answer
+    requires { ⌜ (none ≡ asked (book (now stream))) × (found ≡ bookOf (now stream)) × (wellFormed (now password) ≡ true) × (2064 ≤ length (now scratch)) × (length (now stream) ≤ length (now output)) ⌝ }
+    ensures { λ r. ⌜ Settles (now (stream .entry)) (now (password .entry)) (now (scratch .entry)) (now (output .entry)) r (now (scratch .exit)) (now (output .exit)) ⌝ }
+{
+    let at = found.at;
+    let len = found.len;
+    let start = at + 4;
+    let end = start + (len as usize);
+    match find_lock(&stream[start..end]) {
+        Scheme::Refused(refusal) => Answer::Refused(refusal),
+        Scheme::Xor => {
+            let ok = unlock_xor(stream, at, len, password, output);
+            let report = Report {
+                records: found.records,
+                lock: Lock::Xor,
+                key_bits: 0,
+                summary_sealed: false,
+            };
+            answer_of(ok, report)
+        }
+        Scheme::Rc4(rc4_lock) => {
+            let ok = unlock_rc4(stream, at, len, rc4_lock, password, scratch, output);
+            let kind = rc4_lock.kind;
+            let lock = lock_of(kind);
+            let report = Report {
+                records: found.records,
+                lock,
+                key_bits: rc4_lock.key_bits,
+                summary_sealed: rc4_lock.summary_sealed,
+            };
+            answer_of(ok, report)
+        }
+    }
+}
+
+// Asks questions 6 to 27, and opens the stream where they are passed.
+fn open_stream(stream: &[u8], password: &[u8], scratch: &mut [u8], output: &mut [u8]) -> Answer
+    requires { ⌜ (wellFormed (now password) ≡ true) × (2064 ≤ length (now scratch)) × (length (now stream) ≤ length (now output)) ⌝ }
+    ensures { λ r. ⌜ Settles (now (stream .entry)) (now (password .entry)) (now (scratch .entry)) (now (output .entry)) r (now (scratch .exit)) (now (output .exit)) ⌝ }
+{
+    match survey(stream) {
+        Surveyed::Refused(refusal) => Answer::Refused(refusal),
+        Surveyed::Locked(found) => open_book(stream, found, password, scratch, output),
+    }
+}
+
+// Opens a protected workbook stream: the plain stream into the output and a report, or a refusal.
+pub fn open(stream: &[u8], password: &[u8], scratch: &mut [u8], output: &mut [u8]) -> Answer
+    ensures { λ r. ⌜ Opens (now (stream .entry)) (now (password .entry)) (now (scratch .entry)) (now (output .entry)) r (now (scratch .exit)) (now (output .exit)) ⌝ }
+{
+    match check_lent(password, stream.len(), scratch.len(), output.len()) {
+        Checked::Refused(refusal) => Answer::Refused(refusal),
+        Checked::Fine => {
+            let settled = open_stream(stream, password, scratch, output);
+            sensitive::wipe(scratch, limits::SCRATCH_LEN);
+            settled
+        }
+    }
+}
