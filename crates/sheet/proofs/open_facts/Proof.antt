@@ -1,0 +1,27 @@
+-- `sheet::open_facts` meets its contract: the answer's two cases.
+-- Assumes nothing.
+use borrow.Author.Needs.{needs}
+use mathlib.Core.Path.{_∙_}
+use Rattle.sheet.proofs.open_facts.Statement.{statement}
+use Rattle.sheet.proofs.open_facts.Tie as tie
+
+returns : tie.Need-returns
+returns c = c .facts .ensures ∙ rw (c .before .before .before .lock-number .ensures, c .before .flag .ensures, c .before .before .before .before .before .answer .given .1)
+
+returns-2 : tie.Need-returns-2
+returns-2 c = c .facts2 .ensures ∙ rw (c .before .details-of .ensures, c .before .before .before .answer2 .given .1)
+
+pub open-facts-spec : {M : Type 1} → statement M
+open-facts-spec =
+    tie.close
+    (tie.spec
+    (λ c. search needs)
+    (λ c κs. search needs)
+    (λ c. search needs)
+    (λ c κs. search needs)
+    (λ c κs. search needs)
+    (λ c. search needs)
+    (λ c κs. search needs)
+    (λ c κs. search needs)
+    returns
+    returns-2)

@@ -1,0 +1,77 @@
+-- The numbers of the C interface: what each operation answers, and the eight facts beside it; facts that are not used are 0.
+-- Assumes nothing.
+use mathlib.Core.Path.{_≡_}
+use Prim.Native.Nat.{ℕ}
+use mathlib.Core.Bool.{Bool, true, false}
+use mathlib.Core.List.{List, [], _∷_}
+use Rattle.laws.specs.Choice.{pick}
+use Rattle.binary_office.specs.declared.Version.{Version}
+use Rattle.binary_office.specs.declared.Version.the-variants.{Pair, NoVersion}
+use Rattle.binary_office.specs.declared.KeySize.{KeySize}
+use Rattle.binary_office.specs.declared.KeySize.the-variants.{Bits, NoSize}
+use Rattle.binary_office.specs.declared.Facts.{Facts}
+use Rattle.binary_office.specs.declared.Verdict.{Verdict}
+use Rattle.binary_office.specs.declared.Verdict.the-variants.{Yes, No, Unknown}
+use Rattle.file_params.specs.Refusal.{number, first, second}
+use Rattle.excel97.specs.declared.Lock.{Lock}
+use Rattle.excel97.specs.declared.Lock.the-variants.{Xor, Office97, CryptoApi}
+use Rattle.excel97.specs.declared.Report.{Report}
+use Rattle.excel97.specs.declared.Answer.{Answer}
+use Rattle.excel97.specs.declared.Answer.the-variants.{Opened, Refused}
+use Rattle.excel97.specs.Open.{Outcome, outcome}
+
+-- true is 1
+abbrev pub flag : Bool → ℕ
+flag b = pick b 1 0
+
+-- eight facts
+abbrev pub facts : ℕ → ℕ → ℕ → ℕ → ℕ → List ℕ
+facts a b c d e = a ∷ b ∷ c ∷ d ∷ e ∷ 0 ∷ 0 ∷ 0 ∷ []
+
+-- Look: 0 unknown, 1 no, 2 yes; XOR mark, version there, major, minor, key size (0: none)
+abbrev pub lookNumber : Verdict → ℕ
+lookNumber Unknown = 0
+lookNumber No = 1
+lookNumber (Yes f) = 2
+
+abbrev pub bitsOf : KeySize → ℕ
+bitsOf NoSize = 0
+bitsOf (Bits n) = n
+
+abbrev pub thereOf : Version → ℕ
+thereOf NoVersion = 0
+thereOf (Pair major minor) = 1
+
+abbrev pub majorOf : Version → ℕ
+majorOf NoVersion = 0
+majorOf (Pair major minor) = major
+
+abbrev pub minorOf : Version → ℕ
+minorOf NoVersion = 0
+minorOf (Pair major minor) = minor
+
+abbrev pub lookFacts : Verdict → List ℕ
+lookFacts Unknown = facts 0 0 0 0 0
+lookFacts No = facts 0 0 0 0 0
+lookFacts (Yes f) = facts (flag (f .xor)) (thereOf (f .version)) (majorOf (f .version)) (minorOf (f .version)) (bitsOf (f .«key_size»))
+
+-- Open: 0, or the refusal's number; records, lock (0 XOR, 1 1.1, 2 CryptoAPI), key bits, summary sealed; or the refusal's two details
+abbrev pub lockNumber : Lock → ℕ
+lockNumber Xor = 0
+lockNumber Office97 = 1
+lockNumber CryptoApi = 2
+
+abbrev pub openNumber : Answer → ℕ
+openNumber (Opened r) = 0
+openNumber (Refused r) = number r
+
+abbrev pub openFacts : Answer → List ℕ
+openFacts (Opened r) = facts (r .records) (lockNumber (r .lock)) (r .«key_bits») (flag (r .«summary_sealed»)) 0
+openFacts (Refused r) = facts (first r) (second r) 0 0 0
+
+-- what `sheet_open` answers and leaves
+pub record Opens (stream password scratch output : List ℕ) (number : ℕ) (scratch′ output′ facts′ : List ℕ) : Type 0 where
+  pub answered : number ≡ openNumber (outcome stream password scratch output .answer)
+  pub told : facts′ ≡ openFacts (outcome stream password scratch output .answer)
+  pub scratch-left : scratch′ ≡ outcome stream password scratch output .scratch
+  pub output-left : output′ ≡ outcome stream password scratch output .output

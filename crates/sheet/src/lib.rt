@@ -1,0 +1,151 @@
+// The C interface: one thin function for each operation, documented in include/sheet.h. The caller lends a fixed
+// array of eight numbers for the facts.
+ghost use mathlib.Core.Path.{_≡_};
+ghost use Rattle.laws.specs.Choice.{pick};
+ghost use Rattle.binary_office.specs.Look.{look, sameLock};
+ghost use Rattle.sheet.specs.Facts.{flag, facts, lookNumber, lookFacts, bitsOf, thereOf, majorOf, minorOf, lockNumber, openNumber, openFacts, Opens};
+
+// True is 1.
+fn flag(b: bool) -> u64
+    ensures { λ r. ⌜ r ≡ flag b ⌝ }
+{
+    if b { 1 } else { 0 }
+}
+
+// Eight facts, of which the last three are never used.
+fn facts(a: u64, b: u64, c: u64, d: u64, e: u64) -> [u64; 8]
+    ensures { λ r. ⌜ r ≡ facts a b c d e ⌝ }
+{
+    [a, b, c, d, e, 0, 0, 0]
+}
+
+// The key size, 0 for none.
+fn bits_of(size: binary_office::KeySize) -> u64
+    ensures { λ r. ⌜ r ≡ bitsOf size ⌝ }
+{
+    match size {
+        binary_office::KeySize::NoSize => 0,
+        binary_office::KeySize::Bits(bits) => bits as u64,
+    }
+}
+
+// The facts of a lock whose version is there or not.
+fn by_version(xor: bool, version: binary_office::Version, bits: u64) -> [u64; 8]
+    ensures { λ r. ⌜ r ≡ facts (flag xor) (thereOf version) (majorOf version) (minorOf version) bits ⌝ }
+{
+    let mark = flag(xor);
+    match version {
+        binary_office::Version::NoVersion => facts(mark, 0, 0, 0, bits),
+        binary_office::Version::Pair(major, minor) => facts(
+            mark,
+            1,
+            major as u64,
+            minor as u64,
+            bits,
+        ),
+    }
+}
+
+// The facts of a verdict.
+fn look_facts(verdict: binary_office::Verdict) -> [u64; 8]
+    ensures { λ r. ⌜ r ≡ lookFacts verdict ⌝ }
+{
+    match verdict {
+        binary_office::Verdict::Unknown => facts(0, 0, 0, 0, 0),
+        binary_office::Verdict::No => facts(0, 0, 0, 0, 0),
+        binary_office::Verdict::Yes(lock) => {
+            let version = lock.version;
+            let size = lock.key_size;
+            let bits = bits_of(size);
+            by_version(lock.xor, version, bits)
+        }
+    }
+}
+
+// The number of a verdict.
+fn look_number(verdict: binary_office::Verdict) -> u32
+    ensures { λ r. ⌜ r ≡ lookNumber verdict ⌝ }
+{
+    match verdict {
+        binary_office::Verdict::Unknown => 0,
+        binary_office::Verdict::No => 1,
+        binary_office::Verdict::Yes(_) => 2,
+    }
+}
+
+// The number of a lock.
+fn lock_number(lock: excel97::Lock) -> u64
+    ensures { λ r. ⌜ r ≡ lockNumber lock ⌝ }
+{
+    match lock {
+        excel97::Lock::Xor => 0,
+        excel97::Lock::Office97 => 1,
+        excel97::Lock::CryptoApi => 2,
+    }
+}
+
+// The facts of an answer.
+fn open_facts(answer: excel97::Answer) -> [u64; 8]
+    ensures { λ r. ⌜ r ≡ openFacts answer ⌝ }
+{
+    match answer {
+        excel97::Answer::Opened(report) => {
+            let lock = report.lock;
+            facts(
+                report.records as u64,
+                lock_number(lock),
+                report.key_bits as u64,
+                flag(report.summary_sealed),
+                0,
+            )
+        }
+        excel97::Answer::Refused(refusal) => {
+            let details = file_params::details_of(refusal);
+            facts(details.first, details.second, 0, 0, 0)
+        }
+    }
+}
+
+// The number of an answer.
+fn open_number(answer: excel97::Answer) -> u32
+    ensures { λ r. ⌜ r ≡ openNumber answer ⌝ }
+{
+    match answer {
+        excel97::Answer::Opened(_) => 0,
+        excel97::Answer::Refused(refusal) => file_params::number(refusal),
+    }
+}
+
+// Look.
+#[no_mangle]
+pub extern "C" fn sheet_look(stream: &[u8], told: &mut [u64; 8]) -> u32
+    ensures { λ r. ⌜ (r ≡ lookNumber (look (now (stream .entry)))) × (now (told .exit) ≡ lookFacts (look (now (stream .entry)))) ⌝ }
+{
+    let verdict = binary_office::look(stream);
+    *told = look_facts(verdict);
+    look_number(verdict)
+}
+
+// Same lock.
+#[no_mangle]
+pub extern "C" fn sheet_same_lock(a: &[u8], b: &[u8]) -> bool
+    ensures { λ r. ⌜ r ≡ sameLock (now (a .entry)) (now (b .entry)) ⌝ }
+{
+    binary_office::same_lock(a, b)
+}
+
+// Open.
+#[no_mangle]
+pub extern "C" fn sheet_open(
+    stream: &[u8],
+    password: &[u8],
+    scratch: &mut [u8],
+    output: &mut [u8],
+    told: &mut [u64; 8],
+) -> u32
+    ensures { λ r. ⌜ Opens (now (stream .entry)) (now (password .entry)) (now (scratch .entry)) (now (output .entry)) r (now (scratch .exit)) (now (output .exit)) (now (told .exit)) ⌝ }
+{
+    let answer = excel97::open(stream, password, scratch, output);
+    *told = open_facts(answer);
+    open_number(answer)
+}

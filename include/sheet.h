@@ -1,0 +1,93 @@
+/* Protected Excel 97-2003 workbook streams: looking and opening.
+ *
+ * libsheet.a has no heap, no operating system and no global state. It reads and writes only what the caller
+ * lends, and every function is proved to end, to do nothing undefined and to answer what the definitions in
+ * crates/binary_office/specs, crates/file_params/specs and crates/excel97/specs say, for every argument that
+ * follows these rules:
+ *
+ *   - A pointer with a length points to that many bytes. A length of 0 goes with any pointer but NULL.
+ *   - facts points to eight numbers.
+ *   - What is written (scratch, output, facts) overlaps nothing else that is passed to the same call.
+ *   - No other thread writes to what is lent while a call runs. Calls on different memory may run at once.
+ *
+ * The stream is the Workbook stream of an .xls file, taken out of its compound file. */
+#ifndef SHEET_H
+#define SHEET_H
+
+#include <stdbool.h>
+#include <stddef.h>
+#include <stdint.h>
+
+#ifdef __cplusplus
+extern "C" {
+#endif
+
+/* The scratch that sheet_open asks for, and the most bytes of a password. */
+#define SHEET_SCRATCH_LEN 2064
+#define SHEET_PASSWORD_MAX_LEN 1024
+
+/* Whether a workbook is locked, by its first 1,048,576 bytes at most.
+ *
+ * Answers 0 unknown (no workbook stream, or cut before it can be told), 1 no, 2 yes.
+ * All eight facts are written, whatever the answer. On yes: facts[0] is 1 if the lock is XOR; facts[1] is 1 if
+ * the lock's version is there, then facts[2] is its major and facts[3] its minor number; facts[4] is the key size
+ * in bits that the lock states, 0 for none. All others are 0. */
+uint32_t sheet_look(const uint8_t *stream, size_t stream_len, uint64_t facts[8]);
+
+/* Whether two workbooks have the same lock, as far as sheet_look tells: both are locked, and XOR mark, version
+ * and key size agree. */
+bool sheet_same_lock(const uint8_t *a, size_t a_len, const uint8_t *b, size_t b_len);
+
+/* Opens a locked workbook stream.
+ *
+ * The password is UTF-8, without a terminating zero. The output has room for the stream; the plain stream has the
+ * same length. All eight facts are written, whatever the answer.
+ *
+ * Answers 0 if the stream was opened. Then output[0 .. stream_len) is the plain stream and the rest of the output
+ * is as it was. facts[0] is the number of records; facts[1] the lock: 0 XOR, 1 Office 97 RC4 (version 1.1),
+ * 2 RC4 CryptoAPI; facts[2] the key size in bits: 0 for XOR, 40 for 1.1; facts[3] is 1 if the document summary
+ * is sealed too. The others are 0.
+ *
+ * Any other answer is a refusal: the output is as it was, and facts[0] and facts[1] are its two details, 0 where
+ * none is named.
+ *
+ *   1  the password is longer than 1,024 bytes
+ *   2  the password is not well-formed UTF-8
+ *   3  the scratch is shorter than 2,064 bytes
+ *   4  the stream is longer than 1,073,741,824 bytes
+ *   5  the output is shorter than the stream
+ *   6  a record can't be read: its header or its body is cut off      (the offset of its header)
+ *   7  the stream does not start with a BOF record
+ *   8  there is no FILEPASS record: the workbook is not locked
+ *   9  another record stands before FILEPASS than the format admits   (its id; 0x0086 is WriteProtect: the book was
+ *      also saved as "read-only recommended" or with a password to modify, and some programs do open such books)
+ *  10  the FILEPASS record is cut off                                 (bytes there, bytes needed)
+ *  11  the FILEPASS record names no lock that is known                (its type)
+ *  12  the lock's version is cut off                                  (bytes there, 4)
+ *  13  the lock's version is not one that is read                     (major, minor)
+ *  14  the 1.1 lock is cut off                                        (bytes there, 52)
+ *  15  the CryptoAPI lock is cut off                                  (bytes there, 12)
+ *  16  its header's size is not 32 to 1,024                           (the size)
+ *  17  its header is cut off                                          (the size, bytes of the lock)
+ *  18  it is enciphered by a provider of its own (flag 0x10)          (the flags)
+ *  19  it says AES, which no such workbook has (flag 0x20)            (the flags)
+ *  20  it does not say CryptoAPI (flag 0x04)                          (the flags)
+ *  21  its cipher is not RC4                                          (AlgID)
+ *  22  its hash is not SHA-1                                          (AlgIDHash)
+ *  23  its key size is not 0, nor 40 to 128 in steps of 8             (the size in bits)
+ *  24  its verifier is cut off                                        (bytes there, 60)
+ *  25  its salt is not 16 bytes                                       (the size)
+ *  26  its verifier's hash is not 20 bytes                            (the size)
+ *  27  the password does not pass
+ *
+ * The lowest number that applies is given, in this order. On 1 to 5 the scratch is as it was; otherwise its first
+ * 2,064 bytes are zero afterwards, on success too, and the rest is as it was. What the password was hashed to stands
+ * nowhere else but in the call's own stack frames, which the caller may overwrite after the call. */
+uint32_t sheet_open(const uint8_t *stream, size_t stream_len, const uint8_t *password, size_t password_len, uint8_t *scratch,
+                    size_t scratch_len, uint8_t *output, size_t output_len, uint64_t facts[8]);
+
+#ifdef __cplusplus
+}
+#endif
+
+#endif
