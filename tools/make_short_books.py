@@ -1,0 +1,290 @@
+#!/usr/bin/env python3
+"""Writes the data of the program `short_books`, crates/short_books/data/cases, and what it is to print, crates/short_books/stdout.
+
+Usage, at the root of the project: tools/make_short_books.py. Needs OpenSSL's libcrypto. The locked streams are made from plain ones by books.py, so an
+opened stream's bytes are those it was made from; each refusal is stated here beside its case, from document 01's list of questions; the verdict of
+Look is computed here, from document 01's words.
+
+In the data a case is five parts, each behind its length of four bytes, the lower first: its name, the password, the stream, and, as parts of no bytes
+whose length alone counts, the scratch and the output. The program lends bytes (offset mod 251) + 1, which are never zero.
+"""
+import pathlib
+import struct
+
+from books import BOF, BOUND_SHEET, EOF, FILEPASS, SEVEN, CryptoApi, Office97, Xor, book, record
+
+B = record(BOF)
+XOR = Xor()
+NONE = (0, 0, 0, 0, 0)
+cases, lines = [], []
+
+
+def look(stream):
+    """The verdict's number and facts: XOR mark, version there, major, minor, key size."""
+    if stream[:2] != B[:2]:
+        return 0, NONE
+    at = 0
+    while True:
+        if len(stream) - at < 4:
+            return 0, NONE
+        number, length = struct.unpack_from("<HH", stream, at)
+        body = stream[at + 4:at + 4 + length]
+        if number == FILEPASS:
+            break
+        if number not in SEVEN:
+            return 1, NONE
+        if len(body) < length:
+            return 0, NONE
+        at += 4 + length
+    if len(body) < 2:
+        return 2, NONE
+    if body[:2] == b"\0\0":
+        return 2, (1, 0, 0, 0, 0)
+    if len(body) < 6:
+        return 2, NONE
+    major, minor = struct.unpack_from("<HH", body, 2)
+    size = struct.unpack_from("<I", body, 30)[0] if len(body) >= 34 and 2 <= major <= 4 and minor == 2 else 0
+    return 2, (0, 1, major, minor, size if 1 <= size <= 4096 else 0)
+
+
+def lent(start, end):
+    return bytes(i % 251 + 1 for i in range(start, end))
+
+
+def case(name, stream, password, number, facts=(), plain=None, scratch=2070, more=3, output=None):
+    """One case: `number` and `facts` are what Open answers; `plain` the stream it leaves, of which None says that the output is untouched."""
+    password = password if isinstance(password, bytes) else password.encode()
+    output = len(stream) + more if output is None else output
+    cases.append(b"".join(struct.pack("<I", len(part)) + part for part in (name.encode(), password, stream)) + struct.pack("<II", scratch, output))
+    zeros = 2064 if number == 0 or number >= 6 else 0
+    verdict, told = look(stream)
+    words = [name, f"look {verdict}:", *map(str, told), f"open {number}:", *map(str, (*facts, 0, 0, 0, 0)[:4]), f"scratch {zeros} zero, {scratch - zeros} as lent,"]
+    if plain is None:
+        words.append(f"output 0 written, {output} as lent")
+    else:
+        # the bytes that differ from what was lent end where the plain stream ends, or before where it happens to end in the lent bytes
+        written = len(plain)
+        while written and plain[written - 1] == (written - 1) % 251 + 1:
+            written -= 1
+        words.append(f"output {written} written, {output - written} as lent{': ' + plain[:written].hex() if written else ''}")
+    lines.append(" ".join(words))
+
+
+def opened(name, lock, password, records, **rest):
+    """A book that opens, with its report."""
+    stream, plain = book(lock, password, records)
+    case(name, stream, password, 0, (len(records), lock.number, lock.bits, lock.sealed), plain, **rest)
+
+
+SMALL = [(BOF, bytes(4)), (FILEPASS, b""), (0x0042, b"\xb0\x04"), (EOF, b"")]
+
+
+def small(lock, password):
+    return book(lock, password, SMALL)[0]
+
+
+def refused(name, stream, number, facts=(), password="A", **rest):
+    case(name, stream, password, number, facts, **rest)
+
+
+# "Short books", those marked P and the last line
+refused("empty", b"", 7)
+refused("BOF alone", B, 8)
+refused("a header cut short", B[:3], 6)
+refused("FILEPASS first", record(FILEPASS), 7)
+refused("a FILEPASS body cut short", B + record(FILEPASS, bytes(6))[:6], 6, (4,))
+refused("another id before FILEPASS", B + record(0x0042) + record(FILEPASS), 9, (0x0042,))
+refused("FILEPASS of no body", B + record(FILEPASS), 10, (0, 2))
+refused("FILEPASS of three bytes", B + record(FILEPASS, b"\0\0\x15"), 10, (1, 4))
+refused("type 2", B + record(FILEPASS, b"\2\0"), 11, (2,))
+refused("two bytes of version", B + record(FILEPASS, b"\1\0\1\0"), 12, (2, 4))
+refused("version 1.2", B + record(FILEPASS, b"\1\0\1\0\2\0"), 13, (1, 2))
+XOR_BOOK = B + record(FILEPASS, bytes.fromhex("000015b9c8ce")) + record(0x0042, b"\0\0")
+case("the XOR book", XOR_BOOK, "A", 0, (3, 0, 0, 0), B + record(0, bytes(6)) + record(0x0042, b"\xbe\x19"))
+refused("the XOR book, B", XOR_BOOK, 27, password="B")
+refused("the XOR book, no characters", XOR_BOOK, 27, password="")
+for bits in range(0, 137):
+    if bits % 8 == 0 and 40 <= bits <= 128:
+        opened(f"key size {bits}", CryptoApi(bits), "calibre", SMALL)
+    elif bits == 0:
+        opened("key size 0", CryptoApi(40, stated=0), "calibre", SMALL)
+    elif bits in (32, 39, 41, 44, 47, 127, 129, 136):
+        refused(f"key size {bits}", small(CryptoApi(40, stated=bits), "calibre"), 23, (bits,))
+refused("key size 2^31 + 40", small(CryptoApi(40, stated=2 ** 31 + 40), "calibre"), 23, (2 ** 31 + 40,))
+
+# 1: the password's length, under each lock
+for name, lock in ("1.1", Office97()), ("CryptoAPI", CryptoApi()):
+    for text in "p" * 1024, "é" * 512, "€" * 341 + "p", "\U0001d11e" * 256:
+        opened(f"{name}, a password of 1024 bytes, {len(text)} characters", lock, text, SMALL)
+    refused(f"{name}, a password of 1025 bytes", small(lock, "p" * 1025), 1, password="p" * 1025)
+refused("a password of 1025 bytes that is no UTF-8, no scratch, no output", XOR_BOOK, 1, password=b"\xff" * 1025, scratch=0, output=0)
+
+# 2: what is well-formed, RFC 3629 section 4
+WELL = ("7f", "c280", "dfbf", "e0a080", "ed9fbf", "ee8080", "efbfbf", "f0908080", "f48fbfbf")
+ILL = ("80", "c1bf", "c2", "e09fbf", "eda080", "efbf", "f08fbfbf", "f4908080", "f8888080", "c3c3", "ff")
+for text in WELL:
+    opened(f"a password of bytes {text}", CryptoApi(), bytes.fromhex(text).decode(), SMALL)
+for text in ILL:
+    refused(f"a password of bytes {text}", XOR_BOOK, 2, password=bytes.fromhex(text))
+refused("no UTF-8, no scratch, no output", XOR_BOOK, 2, password=b"A\xff", scratch=0, output=0)
+
+# 3: the scratch
+for name, lock in ("XOR", XOR), ("1.1", Office97()), ("CryptoAPI", CryptoApi()):
+    password = XOR.passwords(8)[0]
+    opened(f"{name}, a scratch of 2064", lock, password, SMALL, scratch=2064)
+    opened(f"{name}, a scratch of 2065", lock, password, SMALL, scratch=2065)
+    refused(f"{name}, a scratch of 2063", small(lock, password), 3, password=password, scratch=2063)
+refused("no scratch, no output", XOR_BOOK, 3, scratch=0, output=0)
+
+# 5: the output
+for name, lock in ("XOR", XOR), ("1.1", Office97()), ("CryptoAPI", CryptoApi()):
+    password = XOR.passwords(8)[0]
+    opened(f"{name}, an output as long as the stream", lock, password, SMALL, more=0)
+    opened(f"{name}, an output of one byte more", lock, password, SMALL, more=1)
+    refused(f"{name}, an output one byte short", small(lock, password), 5, password=password, more=-1)
+refused("an output short for a stream that does not walk", B[:3], 5, output=2)
+
+# 6: every cut of a book
+for length in range(len(XOR_BOOK)):
+    ends = {0: 7, 4: 8, 14: 27}
+    start = max(at for at in (0, 4, 14) if at <= length)
+    if length in ends:
+        refused(f"the XOR book cut at {length}", XOR_BOOK[:length], ends[length], password="B")
+    else:
+        refused(f"the XOR book cut at {length}", XOR_BOOK[:length], 6, (start,), password="B")
+refused("a body one byte past the end", XOR_BOOK + b"\x42\0\1\0", 6, (20,))
+opened("a body up to the end", CryptoApi(), "calibre", SMALL + [(0x0042, b"\1")])
+
+# 7 and 8
+for number in 0x0808, 0x080A, 0x0909, 0x0009, 0x0908:
+    refused(f"first id {number:04x}", record(number) + XOR_BOOK[4:], 7)
+refused("no FILEPASS, six of the seven", b"".join(record(n, bytes(2)) for n in SEVEN if n != FILEPASS), 8)
+refused("no FILEPASS, other ids", B + record(0x0042, bytes(2)) + record(EOF), 8)
+
+# 9: what may stand before FILEPASS
+opened("six of the seven before FILEPASS", CryptoApi(), "calibre", [(n, b"\7\7") for n in SEVEN if n != FILEPASS] + SMALL[1:])
+for number in 0x0000, 0x0042, 0x0085, 0x00E0, 0x00E2, 0x0137, 0x0139, 0x0193, 0x0197, 0x0808, 0x080A, 0xFFFF:
+    refused(f"id {number:04x} before FILEPASS", B + record(0x00E1) + record(number) + record(0x0043) + XOR_BOOK[4:], 9, (number,))
+
+# 10, 12, 14, 15, 17 and 24: every cut of a FILEPASS body, and a byte too many
+LONE = CryptoApi(name=b"")
+for name, lock, whole in ("XOR", XOR, 6), ("1.1", Office97(), 54), ("CryptoAPI", CryptoApi(), 122), ("CryptoAPI, no provider", LONE, 106):
+    password = XOR.passwords(15)[0]
+    body = lock.filepass(password)
+    assert len(body) == whole
+    header = whole - 74
+    for length in range(whole):
+        if length < 2:
+            told = 10, (length, 2)
+        elif name == "XOR":
+            told = 10, (length - 2, 4)
+        elif length < 6:
+            told = 12, (length - 2, 4)
+        elif name == "1.1":
+            told = 14, (length - 2, 52)
+        elif length < 14:
+            told = 15, (length - 2, 12)
+        elif length < 14 + header:
+            told = 17, (header, length - 2)
+        else:
+            told = 24, (length - 14 - header, 60)
+        refused(f"{name}, a FILEPASS body of {length}", B + record(FILEPASS, body[:length]), *told, password=password)
+    case(f"{name}, a FILEPASS body of {whole + 1}", B + record(FILEPASS, body + b"\7"), password, 0, (2, lock.number, lock.bits, lock.sealed), B + record(0, bytes(whole + 1)))
+
+# 11 and 13
+for kind in 2, 3, 256, 257, 65535:
+    refused(f"type {kind}", B + record(FILEPASS, struct.pack("<H", kind) + LONE.filepass("A")[2:]), 11, (kind,))
+for major in range(6):
+    for minor in range(4):
+        if minor == 2 and 2 <= major <= 4:
+            opened(f"version {major}.{minor}", CryptoApi(major=major), "calibre", SMALL)
+        elif (major, minor) != (1, 1):
+            refused(f"version {major}.{minor}", B + record(FILEPASS, struct.pack("<HHH", 1, major, minor) + LONE.filepass("A")[6:]), 13, (major, minor))
+refused("version 258.2", B + record(FILEPASS, struct.pack("<HHH", 1, 258, 2) + LONE.filepass("A")[6:]), 13, (258, 2))
+refused("version 2.258", B + record(FILEPASS, struct.pack("<HHH", 1, 2, 258) + LONE.filepass("A")[6:]), 13, (2, 258))
+
+# 16: the header size
+for size in 0, 31, 1025, 2 ** 32 - 1:
+    refused(f"header size {size}", B + record(FILEPASS, CryptoApi(size=size).filepass("A")), 16, (size,))
+opened("header size 32", LONE, "calibre", SMALL)
+opened("header size 1024", CryptoApi(name=bytes(992)), "calibre", SMALL)
+refused("header size 109 of 108", B + record(FILEPASS, LONE.body(bytes(36))[:10] + struct.pack("<I", 109) + bytes(108)), 17, (109, 120))
+
+# 18 to 20: the flags
+for flags in 0x04, 0x0C, 0x05, 0xFFFFFFCF, 0x80000004:
+    opened(f"flags {flags:x}", CryptoApi(flags=flags), "calibre", SMALL)
+for flags, number in ((0x14, 18), (0x34, 18), (0x10, 18), (0x24, 19), (0x20, 19), (0x2C, 19), (0x00, 20), (0x08, 20), (0xFFFFFFCB, 20), (0xFFFFFFFF, 18)):
+    refused(f"flags {flags:x}", small(CryptoApi(flags=flags), "calibre"), number, (flags,))
+
+# 21 and 22: the algorithms
+for value in 0, 0x6801:
+    opened(f"AlgID {value:x}", CryptoApi(algorithm=value), "calibre", SMALL)
+for value in 1, 0x6800, 0x6802, 0x660E, 0x16801:
+    refused(f"AlgID {value:x}", small(CryptoApi(algorithm=value), "calibre"), 21, (value,))
+for value in 0, 0x8004:
+    opened(f"AlgIDHash {value:x}", CryptoApi(hashing=value), "calibre", SMALL)
+for value in 1, 0x8003, 0x8005, 0x18004:
+    refused(f"AlgIDHash {value:x}", small(CryptoApi(hashing=value), "calibre"), 22, (value,))
+
+# 25 and 26: the sizes of salt and hash
+for at, number, sizes in (46, 25, (0, 15, 17, 2 ** 16 + 16)), (82, 26, (0, 19, 21, 2 ** 31 + 20)):
+    for size in sizes:
+        body = LONE.filepass("A")
+        refused(f"question {number}, size {size}", B + record(FILEPASS, body[:at] + struct.pack("<I", size) + body[at + 4:]), number, (size,))
+
+# two questions at once: the earlier answers
+refused("AlgID and AlgIDHash", small(CryptoApi(algorithm=1, hashing=1), "calibre"), 21, (1,))
+refused("AlgIDHash and key size", small(CryptoApi(hashing=1, stated=39), "calibre"), 22, (1,))
+refused("flags and AlgID", small(CryptoApi(flags=0, algorithm=1), "calibre"), 20, (0,))
+refused("key size and verifier", B + record(FILEPASS, CryptoApi(40, stated=39, name=b"").filepass("A")[:100]), 23, (39,))
+
+# 27: wrong passwords
+for name, lock in ("XOR", XOR), ("1.1", Office97()), ("CryptoAPI", CryptoApi()):
+    password = XOR.passwords(8)[0]
+    for wrong in "", password[:-1], password + " ", password.swapcase(), password[1:] + password[:1], "é", "p" * 1024:
+        if wrong != password:
+            refused(f"{name}, another password of {len(wrong)}", small(lock, password), 27, password=wrong)
+# one bit of the verifier's hash, the first and the last byte
+for name, lock, whole in ("1.1", Office97(), 54), ("CryptoAPI", LONE, 106):
+    for at in whole - (16 if whole == 54 else 20), whole - 1:
+        body = bytearray(lock.filepass("calibre"))
+        body[at] ^= 0x80
+        refused(f"{name}, a bit of byte {at} turned", B + record(FILEPASS, bytes(body)), 27, password="calibre")
+for at in range(2, 6):
+    body = bytearray(XOR.filepass(XOR.passwords(8)[0]))
+    body[at] ^= 1
+    refused(f"XOR, a bit of byte {at} turned", B + record(FILEPASS, bytes(body)), 27, password=XOR.passwords(8)[0])
+refused("XOR, sixteen characters", XOR_BOOK, 27, password="A" * 16)
+refused("XOR, a character above U+00FF", XOR_BOOK, 27, password="Ā")
+
+
+def some(length, seed):
+    return bytes((seed + 37 * k + (k >> 5)) % 256 for k in range(length))
+
+
+# more than three blocks: bodies and headers over block ends, BoundSheet8 of every clear length, a second FILEPASS, all seven ids before and after the lock
+LARGE = [(n, some(k, k)) for k, n in enumerate(SEVEN) if n != FILEPASS] + [(FILEPASS, b"")]
+LARGE += [(BOUND_SHEET, some(k, 7 * k)) for k in (0, 1, 3, 4, 5, 30)] + [(0x00FC, some(700, 5)), (0x0085, some(20, 9)), (FILEPASS, some(40, 3))]
+LARGE += [(n, some(20 + k, k)) for k, n in enumerate(SEVEN)] + [(0x0203, some(14, k)) for k in range(60)] + [(0x00FD, some(1500, 1)), (EOF, b"")]
+for name, lock, password in ("XOR", XOR, XOR.passwords(15)[0]), ("XOR, one character", XOR, XOR.passwords(1)[0]), ("1.1", Office97(), "Unruh 50°"), \
+        ("CryptoAPI 40", CryptoApi(40), "Unruh 50°"), ("CryptoAPI 56", CryptoApi(56), ""), ("CryptoAPI 128", CryptoApi(), "\U0001d11e und €"):
+    gap = 0
+    while True:
+        # a gap in front, so that a record's header stands over the end of a block
+        records = LARGE[:-2] + [(0x0204, some(gap, 2))] + LARGE[-2:]
+        stream, plain = book(lock, password, records)
+        starts, at = [], 0
+        while at < len(stream):
+            starts.append(at)
+            at += 4 + struct.unpack_from("<H", stream, at + 2)[0]
+        if any(start // 1024 != (start + 3) // 1024 for start in starts):
+            break
+        gap += 1
+    assert 3 * 1024 < len(stream) < 8192
+    opened(f"{name}, four blocks", lock, password, records)
+    refused(f"{name}, four blocks, another password", stream, 27, password=password + "x" if len(password) < 15 else password[:-1])
+
+pathlib.Path("crates/short_books/data").mkdir(parents=True, exist_ok=True)
+pathlib.Path("crates/short_books/data/cases").write_bytes(b"".join(cases))
+pathlib.Path("crates/short_books/stdout").write_text("\n".join(lines) + f"\n{len(lines)} cases\n", encoding="utf-8")
+print(len(cases), "cases,", sum(map(len, cases)), "bytes")
