@@ -2,12 +2,12 @@
 -- Assumes nothing.
 use mathlib.Core.Path.{_≡_, refl, sym, ap, _∙_}
 use mathlib.Core.List.{List, [], _∷_, _++_}
-use Prim.Native.Nat.{ℕ, zero, suc, _+_, _<_}
+use Prim.Native.Nat.{ℕ, zero, suc, _+_, _<_, _≤_}
 use native.Mathlib.Nat.{add-zero, add-suc, suc-add, not-suc-le-zero, le-of-suc-le-suc}
 use native.Mathlib.Numerals.{add-one}
 use native.Mathlib.Omega.{arith}
 use lib.ListN.{length, getD, take, set, length-append, List·getD-append}
-use lib.Seq.{getD-at, take-suc-set}
+use lib.Seq.{getD-at, getD-take, take-suc-set, take-all, length-take-le, ext-getD}
 use Rattle.laws.specs.Offsets.{tabulate, mapAt}
 use Rattle.laws.proofs.Choice.{either}
 
@@ -43,3 +43,13 @@ module _ {ℓ} {A : Type ℓ} where
   getD-mapAt f i [] k d h = absurd (not-suc-le-zero h)
   getD-mapAt f i (x ∷ xs) zero d h = rw (add-zero i)
   getD-mapAt f i (x ∷ xs) (suc k) d h = getD-mapAt f (suc i) xs k d (le-of-suc-le-suc h) ∙ ap (λ (j : ℕ). f j (getD xs k d)) (suc-add i k ∙ sym (add-suc i k))
+
+-- an array written out, byte by byte, is the first bytes of the list that they are taken from
+pub heads : (l : List ℕ) (n : ℕ) → n ≤ length l → tabulate (λ (i : ℕ). getD l i 0) n ≡ take n l
+heads l n h =
+    let f : ℕ → ℕ = λ i. getD l i 0 in
+    ext-getD 0 (tabulate f n) (take n l) (length-tabulate f n ∙ sym (length-take-le n l h))
+    (λ i k. let m : i < n = rw (length-tabulate f n) at k in getD-tabulate f n i 0 m ∙ sym (getD-take n l i 0 m))
+
+pub listed : (l : List ℕ) (n : ℕ) → length l ≡ n → tabulate (λ (i : ℕ). getD l i 0) n ≡ l
+listed l n e = heads l n (omega arith) ∙ take-all n l (omega arith)

@@ -1,16 +1,14 @@
 -- How long a block's key is: 6 to 16 bytes of the digest, or the 16 that stand for forty bits.
 -- Assumes nothing.
-use mathlib.Core.Path.{_≡_, refl, sym, ap, _∙_}
+use mathlib.Core.Path.{_≡_, refl, ap, _∙_}
 use mathlib.Core.Bool.{Bool, true, false}
 use mathlib.Core.List.{List, _++_}
-use Prim.Native.Nat.{ℕ, _+_, _/_, _≤_, _<_}
+use Prim.Native.Nat.{ℕ, _+_, _/_, _≤_}
 use native.Mathlib.Omega.{arith}
-use lib.ListN.{length, getD, take, replicate, length-append}
-use lib.Seq.{length-take-le, getD-take, take-all, ext-getD}
+use lib.ListN.{length, take, replicate, length-append}
+use lib.Seq.{length-take-le}
 use Rattle.laws.specs.Choice.{within}
-use Rattle.laws.specs.Offsets.{tabulate}
 use Rattle.laws.proofs.Choice.{taken, left, within-from, within-to}
-use Rattle.laws.proofs.Offsets.{length-tabulate, getD-tabulate}
 use Rattle.word.specs.Word.{le-bytes}
 use Rattle.sha1.specs.Sha1.{sha1, output}
 use Rattle.rc4_cryptoapi.specs.Keys.{hfinal, blockKey}
@@ -49,13 +47,3 @@ module _ (h0 : List ℕ) (bits block : ℕ) where
           let k = within-to 48 128 bits e in
           rw (key-long e, length-long e) (omega arith, omega arith)
       go false e = rw (key-forty e, length-forty) (omega arith, omega arith)
-
--- an array written out, byte by byte, is the first bytes of the list that they are taken from
-pub heads : (l : List ℕ) (n : ℕ) → n ≤ length l → tabulate (λ (i : ℕ). getD l i 0) n ≡ take n l
-heads l n h =
-    let f : ℕ → ℕ = λ i. getD l i 0 in
-    ext-getD 0 (tabulate f n) (take n l) (length-tabulate f n ∙ sym (length-take-le n l h))
-    (λ i k. let m : i < n = rw (length-tabulate f n) at k in getD-tabulate f n i 0 m ∙ sym (getD-take n l i 0 m))
-
-pub listed : (l : List ℕ) (n : ℕ) → length l ≡ n → tabulate (λ (i : ℕ). getD l i 0) n ≡ l
-listed l n e = heads l n (omega arith) ∙ take-all n l (omega arith)

@@ -1,12 +1,12 @@
--- A list sixteen times over by its offsets, arrays that are written out byte by byte, and how long a block's key is: the 16 bytes of a digest.
+-- A list sixteen times over by its offsets, and how long a block's key is: the 16 bytes of a digest.
 -- Assumes nothing.
 use mathlib.Core.Path.{_≡_, refl, sym, ap, _∙_}
 use mathlib.Core.List.{List, _++_}
 use Prim.Native.Nat.{ℕ, zero, suc, _+_, _-_, _*_, _%_, _≤_, _<_}
 use native.Mathlib.Nat.{suc-mul}
 use native.Mathlib.Omega.{arith}
-use lib.ListN.{length, getD, take, length-append, List·getD-append}
-use lib.Seq.{length-take-le, getD-append-add, getD-take, take-all, ext-getD}
+use lib.ListN.{length, getD, length-append, List·getD-append}
+use lib.Seq.{getD-append-add, ext-getD}
 use Rattle.laws.specs.Offsets.{tabulate}
 use Rattle.laws.proofs.Choice.{either}
 use Rattle.laws.proofs.Offsets.{length-tabulate, getD-tabulate}
@@ -27,16 +27,6 @@ key-sixteen hash block = rw (key-is hash block) (length-md5 (hash ++ le-bytes bl
 
 pub block-key-length : (hash : List ℕ) (block : ℕ) → (5 ≤ length (blockKey hash block)) × (length (blockKey hash block) ≤ 16)
 block-key-length hash block = rw (key-sixteen hash block) (omega arith, omega arith)
-
--- an array written out, byte by byte, is the first bytes of the list that they are taken from
-pub heads : (l : List ℕ) (n : ℕ) → n ≤ length l → tabulate (λ (i : ℕ). getD l i 0) n ≡ take n l
-heads l n h =
-    let f : ℕ → ℕ = λ i. getD l i 0 in
-    ext-getD 0 (tabulate f n) (take n l) (length-tabulate f n ∙ sym (length-take-le n l h))
-    (λ i k. let m : i < n = rw (length-tabulate f n) at k in getD-tabulate f n i 0 m ∙ sym (getD-take n l i 0 m))
-
-pub listed : (l : List ℕ) (n : ℕ) → length l ≡ n → tabulate (λ (i : ℕ). getD l i 0) n ≡ l
-listed l n e = heads l n (omega arith) ∙ take-all n l (omega arith)
 
 -- a list of 21 elements, n times over
 module _ (u : List ℕ) (e : length u ≡ 21) where

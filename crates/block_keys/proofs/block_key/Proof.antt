@@ -8,7 +8,7 @@ use lib.ListN.{length}
 use Rattle.laws.specs.Offsets.{tabulate}
 use Rattle.sensitive.specs.Derived.{derived}
 use Rattle.rc4_office97.specs.Keys as office97
-use Rattle.rc4_office97.proofs.Laws.{heads}
+use Rattle.laws.proofs.Offsets.{heads}
 use borrow.Author.Needs.{needs}
 use Rattle.block_keys.proofs.Answers.{key-97, key-api}
 use Rattle.block_keys.proofs.block_key.Statement.{statement}

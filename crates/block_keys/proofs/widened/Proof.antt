@@ -6,7 +6,7 @@ use Prim.Native.Nat.{ℕ}
 use lib.ListN.{replicate}
 use Rattle.laws.specs.Offsets.{tabulate}
 use borrow.Author.Needs.{needs}
-use Rattle.rc4_office97.proofs.Laws.{listed}
+use Rattle.laws.proofs.Offsets.{listed}
 use Rattle.block_keys.proofs.widened.Statement.{statement}
 use Rattle.block_keys.proofs.widened.Tie as tie
 

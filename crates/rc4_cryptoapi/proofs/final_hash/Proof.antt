@@ -6,7 +6,7 @@ use Prim.Native.Nat.{ℕ}
 use lib.ListN.{length, getD}
 use Rattle.laws.specs.Offsets.{tabulate}
 use Rattle.sha1.specs.Sha1.{sha1}
-use Rattle.rc4_cryptoapi.proofs.Laws.{listed}
+use Rattle.laws.proofs.Offsets.{listed}
 use borrow.Author.Needs.{needs}
 use Rattle.rc4_cryptoapi.proofs.final_hash.Statement.{statement}
 use Rattle.rc4_cryptoapi.proofs.final_hash.Tie as tie

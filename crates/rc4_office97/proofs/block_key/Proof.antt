@@ -9,7 +9,8 @@ use Rattle.word.specs.Word.{le-bytes}
 use Rattle.md5.specs.Md5.{md5}
 use Rattle.sensitive.specs.Derived.{derived}
 use Rattle.rc4_office97.specs.Keys.{blockKey}
-use Rattle.rc4_office97.proofs.Laws.{key-is, key-sixteen, listed}
+use Rattle.laws.proofs.Offsets.{listed}
+use Rattle.rc4_office97.proofs.Laws.{key-is, key-sixteen}
 use borrow.Author.Needs.{needs}
 use Rattle.rc4_office97.proofs.block_key.Statement.{statement}
 use Rattle.rc4_office97.proofs.block_key.Tie as tie

@@ -6,7 +6,8 @@ use lib.ListN.{length, take}
 use Rattle.laws.specs.Offsets.{tabulate}
 use Rattle.md5.specs.Md5.{md5}
 use Rattle.rc4_office97.specs.Keys.{times, truncated}
-use Rattle.rc4_office97.proofs.Laws.{length-md5, heads}
+use Rattle.laws.proofs.Offsets.{heads}
+use Rattle.rc4_office97.proofs.Laws.{length-md5}
 use borrow.Author.Needs.{needs}
 use Rattle.rc4_office97.proofs.truncated_h1.Statement.{statement}
 use Rattle.rc4_office97.proofs.truncated_h1.Tie as tie

@@ -6,7 +6,7 @@ use Prim.Native.Nat.{ℕ}
 use native.Mathlib.Omega.{arith}
 use lib.ListN.{length, getD, take}
 use Rattle.laws.specs.Offsets.{tabulate}
-use Rattle.rc4_office97.proofs.Laws.{heads, listed}
+use Rattle.laws.proofs.Offsets.{heads, listed}
 use borrow.Author.Needs.{needs}
 use Rattle.rc4_office97.proofs.unit.Statement.{statement}
 use Rattle.rc4_office97.proofs.unit.Tie as tie
