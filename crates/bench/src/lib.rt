@@ -47,8 +47,9 @@ pub extern "C" fn bench_rc4_halves(key: &[u8], other: &[u8], src: &[u8], dst: &m
     ensures { λ r. ⌜ r ≡ made (now (key .entry)) .ok && made (now (other .entry)) .ok ⌝ }
     ensures { λ r. ⌜ now (dst .exit) ≡ encipheredHalves (made (now (key .entry)) .keystream) (made (now (other .entry)) .keystream) (now (src .entry)) (now (dst .entry)) ⌝ }
 {
-    let first = Keystream::new(key);
-    let second = Keystream::new(other);
+    let pair = rc4::new_pair(key, other);
+    let first = pair.first;
+    let second = pair.second;
     let a = first.keystream;
     let b = second.keystream;
     rc4::apply_halves(a, b, src, dst);

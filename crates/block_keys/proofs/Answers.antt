@@ -9,7 +9,7 @@ use native.Mathlib.Omega.{arith}
 use lib.Bits.{bitXor}
 use lib.Dec.{eqb}
 use lib.ListN.{length, getD, take, drop, replicate, length-append}
-use lib.Seq.{take-append-le, take-all}
+use lib.Seq.{take-append-le, take-all, length-take-le}
 use Rattle.laws.specs.Choice.{pick}
 use Rattle.laws.specs.Offsets.{tabulate}
 use Rattle.laws.proofs.Choice.{taken, left, skip, stop}
@@ -83,6 +83,19 @@ module _ (key : List ℕ) where
   pub key-stream : 5 ≤ length key → length key ≤ 16 → made key .keystream ≡ keyed key
   unfolding keyed
   key-stream h k = ap (λ (m : Made). m .keystream) (sym (made-keyed key h k))
+
+-- the key of a block as a function hands it over: bytes, and how many of them
+module _ (s : Schedule) (block : ℕ) (d : DerivedKey) (e : d ≡ derived (blockKey s block)) where
+  pub handed-room : d .len ≤ length (d .bytes)
+  handed-room = rw e (key-room (blockKey s block))
+
+  pub handed-count : d .len ≡ length (take (d .len) (d .bytes))
+  handed-count = sym (length-take-le (d .len) (d .bytes) handed-room)
+
+  pub handed-stream : (m : Made) → m ≡ made (take (d .len) (d .bytes)) → m .keystream ≡ keyed (blockKey s block)
+  handed-stream m g =
+      ap (λ (n : Made). n .keystream) (g ∙ ap made (ap (λ (k : DerivedKey). take (k .len) (k .bytes)) e ∙ key-bytes (blockKey s block)))
+      ∙ key-stream (blockKey s block) (key-length s block .0) (key-length s block .1)
 
 -- lists given by offsets that agree
 tabulate-same : (f g : ℕ → ℕ) (n : ℕ) → ((i : ℕ) → f i ≡ g i) → tabulate f n ≡ tabulate g n

@@ -3,6 +3,7 @@
 ghost use mathlib.Core.Path.{_≡_};
 ghost use Prim.Native.Nat.{_%_, _<_, min};
 ghost use lib.ListN.{length};
+ghost use Rattle.laws.specs.Choice.{within};
 ghost use Rattle.rc4.specs.Rc4.{identity, mixing, made, Applies, AppliesHalves};
 
 // A keystream under one key: the table, and the two indices into it.
@@ -16,6 +17,18 @@ pub struct Keystream {
 pub struct Made {
     pub ok: bool,
     pub keystream: Keystream,
+}
+
+// What came of making two keystreams.
+pub struct Pair {
+    pub first: Made,
+    pub second: Made,
+}
+
+// Two tables.
+pub struct Tables {
+    pub first: [u8; 256],
+    pub second: [u8; 256],
 }
 
 fn wide(x: u8) -> usize
@@ -43,12 +56,13 @@ fn unmixed() -> [u8; 256]
     t
 }
 
-// Which byte of a key goes with an index of the table.
+// Which byte of a key goes with an index of the table. Nearly all keys have 16 bytes, where it takes no
+// division.
 fn key_index(i: usize, len: usize) -> usize
     requires { ⌜ 0 < len ⌝ }
     ensures { λ r. ⌜ r ≡ i % len ⌝ }
 {
-    i % len
+    if len == 16 { i % 16 } else { i % len }
 }
 
 // The table with the key mixed in.
@@ -67,6 +81,33 @@ fn mixed(key: &[u8]) -> [u8; 256]
         i += 1;
     }
     t
+}
+
+// The tables with one of two keys mixed into each. The two run side by side.
+fn mixed_both(key: &[u8], other: &[u8]) -> Tables
+    requires { ⌜ (0 < length (now key)) × (0 < length (now other)) ⌝ }
+    ensures { λ r. ⌜ (r .first ≡ mixing (now (key .entry)) 256 .table) × (r .second ≡ mixing (now (other .entry)) 256 .table) ⌝ }
+{
+    let mut s = unmixed();
+    let mut t = unmixed();
+    let mut i = 0;
+    let mut j = 0;
+    let mut v = 0;
+    while i < 256 {
+        let a = s[i];
+        j = (j + wide(a) + wide(key[key_index(i, key.len())])) % 256;
+        s[i] = s[j];
+        s[j] = a;
+        let b = t[i];
+        v = (v + wide(b) + wide(other[key_index(i, other.len())])) % 256;
+        t[i] = t[v];
+        t[v] = b;
+        i += 1;
+    }
+    Tables {
+        first: s,
+        second: t,
+    }
 }
 
 impl Keystream {
@@ -127,6 +168,46 @@ impl Keystream {
             j: (j % 256) as u8,
         }
     }
+}
+
+// Whether a keystream is made from keys of a length.
+fn fits(len: usize) -> bool
+    ensures { λ r. ⌜ r ≡ within 5 16 len ⌝ }
+{
+    (Keystream::MIN_KEY_LEN <= len) & (len <= Keystream::MAX_KEY_LEN)
+}
+
+// The keystreams of two keys of 5 to 16 bytes, from their first bytes on.
+pub fn new_pair(key: &[u8], other: &[u8]) -> Pair
+    ensures { λ r. ⌜ (r .first ≡ made (now (key .entry))) × (r .second ≡ made (now (other .entry))) ⌝ }
+{
+    if fits(key.len()) {
+        if fits(other.len()) {
+            let tables = mixed_both(key, other);
+            let a = tables.first;
+            let b = tables.second;
+            let first = Made {
+                ok: true,
+                keystream: Keystream {
+                    table: a,
+                    i: 0,
+                    j: 0,
+                },
+            };
+            let second = Made {
+                ok: true,
+                keystream: Keystream {
+                    table: b,
+                    i: 0,
+                    j: 0,
+                },
+            };
+            return Pair { first, second };
+        }
+    }
+    let first = Keystream::new(key);
+    let second = Keystream::new(other);
+    Pair { first, second }
 }
 
 // The first half of src under one keystream and the second half under another, into dst: as many bytes

@@ -1,4 +1,4 @@
--- `bench::bench_rc4_halves` meets its contract: `new` gives the two keystreams and says whether there are such, and `apply_halves` writes the bytes under them.
+-- `bench::bench_rc4_halves` meets its contract: `new_pair` gives the two keystreams and says whether there are such, and `apply_halves` writes the bytes under them.
 -- Assumes nothing.
 use mathlib.Core.Path.{_≡_, refl, _∙_}
 use mathlib.Core.Bool.{_&&_}
@@ -20,11 +20,9 @@ module _ (m m′ n n′ : Made) (e : m ≡ m′) (g : n ≡ n′) where
 returns : tie.Need-returns
 returns c =
     let q = c .before .before .before .before in
-    let m = q .before .before .before .before .before .new in
-    let n = q .before .before .before .before .new2 in
-    let a = q .before .before .before .before .before .before .before .before .before .before .args in
-    (both (m .result) _ (n .result) _ (m .ensures) (n .ensures), halves (m .result) _ (n .result) _ (m .ensures) (n .ensures) (a .src .now) (a .dst .now) _ (q .apply-halves .ensures .bytes))
+    let p = q .before .before .before .before .before .before .new-pair in
+    let a = q .before .before .before .before .before .before .before .before .before .before .before .args in
+    (both (p .result .first) _ (p .result .second) _ (p .ensures .0) (p .ensures .1), halves (p .result .first) _ (p .result .second) _ (p .ensures .0) (p .ensures .1) (a .src .now) (a .dst .now) _ (q .apply-halves .ensures .bytes))
 
 pub bench-rc4-halves-spec : {M : Type 1} → statement M
-bench-rc4-halves-spec =
-    tie.close (tie.spec (λ c κs. search needs) (λ c κs. search needs) (λ c κs. search needs) (λ c. search needs) returns)
+bench-rc4-halves-spec = tie.close (tie.spec (λ c κs. search needs) (λ c κs. search needs) (λ c. search needs) returns)
