@@ -1,6 +1,6 @@
 -- The data of the test programs: parts, and numbers of four bytes, the lower first. What does not lie within the data is no bytes, or 0.
 -- Assumes nothing.
-use Prim.Native.Nat.{ℕ, _+_, _≤_}
+use Prim.Native.Nat.{ℕ, _+_, _%_, _≤_}
 use mathlib.Core.List.{List, []}
 use lib.Dec.{leb}
 use lib.ListN.{length, take, drop}
@@ -14,6 +14,10 @@ partAt d at len = pick (leb (at + len) (length d)) (take len (drop at d)) []
 
 unfoldable pub numberAt : List ℕ → ℕ → ℕ
 numberAt d at = pick (leb (at + 4) (length d)) (le32 d at) 0
+
+-- the byte at an offset of a buffer as the programs lend it: never zero
+abbrev pub lentAt : ℕ → ℕ
+lentAt i = i % 251 + 1
 
 -- what is read from a file cannot be said; that it is no more than there is room for can
 abbrev pub Within : Loaded → ℕ → Type 0

@@ -3,7 +3,8 @@
 ghost use mathlib.Core.Path.{_≡_};
 ghost use Prim.Native.Nat.{_<_, _≤_, _^_};
 ghost use lib.ListN.{length};
-ghost use Rattle.samples.specs.Sample.{partAt, numberAt, Within};
+ghost use Rattle.laws.specs.Offsets.{tabulate};
+ghost use Rattle.samples.specs.Sample.{partAt, numberAt, lentAt, Within};
 
 // What came of reading a file: how many bytes, or that it can't be read.
 pub enum Loaded {
@@ -35,6 +36,24 @@ pub fn number(d: &[u8], at: usize) -> usize
         return 0;
     }
     word::from_le_bytes(d[at], d[at + 1], d[at + 2], d[at + 3]) as usize
+}
+
+// The byte at an offset of a buffer as it is lent.
+pub fn lent_byte(i: usize) -> u8
+    ensures { λ r. ⌜ r ≡ lentAt i ⌝ }
+{
+    (i % 251 + 1) as u8
+}
+
+// Fills a buffer with the bytes that are lent, so that every byte that is written shows.
+pub fn lend(buffer: &mut [u8])
+    ensures { λ _. ⌜ now (buffer .exit) ≡ tabulate lentAt (length (now (buffer .entry))) ⌝ }
+{
+    let mut i = 0;
+    while i < buffer.len() {
+        buffer[i] = lent_byte(i);
+        i += 1;
+    }
 }
 
 // Reads what follows in an open file until the buffer is full or the file ends.

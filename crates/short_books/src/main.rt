@@ -2,6 +2,7 @@
 // the scratch, and the output. tools/make_short_books.py makes the data and what is expected.
 use libc::STDOUT_FILENO;
 use samples::Loaded;
+use samples::lent_byte;
 use samples::number;
 use samples::part;
 ghost use mathlib.Core.Path.{_≡_};
@@ -12,24 +13,6 @@ fn data_buffer() -> [u8; 262144]
     ensures { λ r. ⌜ 262144 ≡ length r ⌝ }
 {
     [0; 262144]
-}
-
-// The byte that is lent at an offset: never zero.
-fn lent_byte(i: usize) -> u8 {
-    (i % 251 + 1) as u8
-}
-
-// A buffer as it is lent.
-fn lent_buffer() -> [u8; 8192]
-    ensures { λ r. ⌜ 8192 ≡ length r ⌝ }
-{
-    let mut buffer = [0u8; 8192];
-    let mut i = 0;
-    while i < 8192 {
-        buffer[i] = lent_byte(i);
-        i += 1;
-    }
-    buffer
 }
 
 fn at_most(n: usize, most: usize) -> usize
@@ -134,8 +117,10 @@ fn run_lent(name: &[u8], password: &[u8], stream: &[u8], scratch: &mut [u8], out
 
 // Looks at a stream and opens it, with a scratch and an output of some lengths.
 fn run(name: &[u8], password: &[u8], stream: &[u8], scratch_len: usize, output_len: usize) {
-    let mut scratch = lent_buffer();
-    let mut output = lent_buffer();
+    let mut scratch = [0u8; 8192];
+    let mut output = [0u8; 8192];
+    samples::lend(&mut scratch);
+    samples::lend(&mut output);
     let s = at_most(scratch_len, 8192);
     let o = at_most(output_len, 8192);
     run_lent(
