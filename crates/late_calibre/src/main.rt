@@ -2,7 +2,6 @@
 // stands past the first kilobyte; with another password it prints the refusal and no figure.
 // tools/make_late_calibre.py makes the data and what is expected.
 use libc::STDOUT_FILENO;
-use samples::Loaded;
 use samples::number;
 use samples::part;
 ghost use mathlib.Core.Path.{_≡_};
@@ -93,8 +92,6 @@ fn measure_all(data: &[u8]) {
 
 fn main() {
     let mut data = data_buffer();
-    match samples::load(b"sheets", &mut data) {
-        Loaded::Bytes(n) => measure_all(&data[0..n]),
-        Loaded::Failed => {}
-    }
+    let n = samples::read(b"sheets", &mut data);
+    measure_all(&data[0..n]);
 }

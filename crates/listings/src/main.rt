@@ -1,7 +1,6 @@
 // Prints the listings of the streams in its data, one after the other, each behind a line that numbers it
 // and tells its length. tools/make_listings.py makes the data and what is expected.
 use libc::STDOUT_FILENO;
-use samples::Loaded;
 ghost use mathlib.Core.Path.{_≡_};
 ghost use lib.ListN.{length};
 
@@ -44,8 +43,6 @@ fn list_all(all: &[u8]) {
 
 fn main() {
     let mut all = data_buffer();
-    match samples::load(b"streams", &mut all) {
-        Loaded::Bytes(n) => list_all(&all[0..n]),
-        Loaded::Failed => {}
-    }
+    let n = samples::read(b"streams", &mut all);
+    list_all(&all[0..n]);
 }

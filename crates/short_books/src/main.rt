@@ -1,7 +1,6 @@
 // Looks at and opens the streams in its data, through the C exports, and prints for each the two answers, what is left of
 // the scratch, and the output. tools/make_short_books.py makes the data and what is expected.
 use libc::STDOUT_FILENO;
-use samples::Loaded;
 use samples::lent_byte;
 use samples::number;
 use samples::part;
@@ -157,8 +156,6 @@ fn run_all(data: &[u8]) {
 
 fn main() {
     let mut data = data_buffer();
-    match samples::load(b"cases", &mut data) {
-        Loaded::Bytes(n) => run_all(&data[0..n]),
-        Loaded::Failed => {}
-    }
+    let n = samples::read(b"cases", &mut data);
+    run_all(&data[0..n]);
 }

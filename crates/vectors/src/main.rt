@@ -3,7 +3,6 @@
 // many differ. tools/ has the scripts that make the data: make_vectors.py, make_texts.py, XorVectors.java.
 use libc::STDOUT_FILENO;
 use rc4::Keystream;
-use samples::Loaded;
 use samples::number;
 use samples::part;
 use sensitive::Encoded;
@@ -221,16 +220,6 @@ fn large_buffer() -> [u8; 262144]
     [0; 262144]
 }
 
-// Reads a file into a buffer and answers how many bytes there are, 0 where it can't be read.
-fn load(path: &[u8], buffer: &mut [u8]) -> usize
-    ensures { λ r. ⌜ r ≤ length (now (buffer .entry)) ⌝ }
-{
-    match samples::load(path, buffer) {
-        Loaded::Bytes(n) => n,
-        Loaded::Failed => 0,
-    }
-}
-
 fn report(name: &[u8], t: Tally) {
     io::write_all(STDOUT_FILENO, name);
     io::write_all(STDOUT_FILENO, b": ");
@@ -242,37 +231,37 @@ fn report(name: &[u8], t: Tally) {
 
 fn report_md5(name: &[u8], path: &[u8]) {
     let mut data = [0u8; 4096];
-    let n = load(path, &mut data);
+    let n = samples::read(path, &mut data);
     report(name, md5_set(&data[0..n]));
 }
 
 fn report_sha1(name: &[u8], path: &[u8]) {
     let mut data = large_buffer();
-    let n = load(path, &mut data);
+    let n = samples::read(path, &mut data);
     report(name, sha1_set(&data[0..n]));
 }
 
 fn report_monte(name: &[u8], path: &[u8]) {
     let mut data = [0u8; 4096];
-    let n = load(path, &mut data);
+    let n = samples::read(path, &mut data);
     report(name, sha1_monte(&data[0..n]));
 }
 
 fn report_rc4(name: &[u8], path: &[u8]) {
     let mut data = [0u8; 4096];
-    let n = load(path, &mut data);
+    let n = samples::read(path, &mut data);
     report(name, rc4_set(&data[0..n]));
 }
 
 fn report_texts(name: &[u8], path: &[u8]) {
     let mut data = large_buffer();
-    let n = load(path, &mut data);
+    let n = samples::read(path, &mut data);
     report(name, text_set(&data[0..n]));
 }
 
 fn report_xor(name: &[u8], path: &[u8]) {
     let mut data = [0u8; 8192];
-    let n = load(path, &mut data);
+    let n = samples::read(path, &mut data);
     report(name, xor_set(&data[0..n]));
 }
 
