@@ -38,6 +38,13 @@ uint32_t sheet_look(const uint8_t *stream, size_t stream_len, uint64_t facts[8])
  * and key size agree. */
 bool sheet_same_lock(const uint8_t *a, size_t a_len, const uint8_t *b, size_t b_len);
 
+/* The record whose header is at an offset of a stream: to list the records, start at 0 and go on at at + 4 + facts[1].
+ *
+ * Answers 0 at the end of the stream or past it; 1 for a record, and then facts[0] is its id, facts[1] the length of its
+ * body, and facts[2] how many of the body's first bytes stand in the clear in a locked workbook; 2 if a header or a body is cut
+ * off, and then facts[0] is the header's offset. All eight facts are written; the others are 0. */
+uint32_t sheet_record(const uint8_t *stream, size_t stream_len, size_t at, uint64_t facts[8]);
+
 /* Opens a locked workbook stream.
  *
  * The password is UTF-8, without a terminating zero. The output has room for the stream; the plain stream has the

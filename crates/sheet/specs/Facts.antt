@@ -12,6 +12,9 @@ use Rattle.binary_office.specs.declared.KeySize.the-variants.{Bits, NoSize}
 use Rattle.binary_office.specs.declared.Facts.{Facts}
 use Rattle.binary_office.specs.declared.Verdict.{Verdict}
 use Rattle.binary_office.specs.declared.Verdict.the-variants.{Yes, No, Unknown}
+use Rattle.binary_office.specs.declared.Step.{Step}
+use Rattle.binary_office.specs.declared.Step.the-variants.{Record, Fault, End}
+use Rattle.binary_office.specs.Walk.{clearLen}
 use Rattle.file_params.specs.Refusal.{number, first, second}
 use Rattle.excel97.specs.declared.Lock.{Lock}
 use Rattle.excel97.specs.declared.Lock.the-variants.{Xor, Office97, CryptoApi}
@@ -54,6 +57,17 @@ abbrev pub lookFacts : Verdict → List ℕ
 lookFacts Unknown = facts 0 0 0 0 0
 lookFacts No = facts 0 0 0 0 0
 lookFacts (Yes f) = facts (flag (f .xor)) (thereOf (f .version)) (majorOf (f .version)) (minorOf (f .version)) (bitsOf (f .«key_size»))
+
+-- a record: 0 the end, 1 a record, 2 a fault; its id, length and clear length, or the fault's place
+abbrev pub recordNumber : Step → ℕ
+recordNumber End = 0
+recordNumber (Record id len) = 1
+recordNumber (Fault at) = 2
+
+abbrev pub recordFacts : Step → List ℕ
+recordFacts End = facts 0 0 0 0 0
+recordFacts (Record id len) = facts id len (clearLen id len) 0 0
+recordFacts (Fault at) = facts at 0 0 0 0
 
 -- Open: 0, or the refusal's number; records, lock (0 XOR, 1 1.1, 2 CryptoAPI), key bits, summary sealed; or the refusal's two details
 abbrev pub lockNumber : Lock → ℕ

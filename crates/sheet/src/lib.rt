@@ -2,8 +2,9 @@
 // array of eight numbers for the facts.
 ghost use mathlib.Core.Path.{_≡_};
 ghost use Rattle.laws.specs.Choice.{pick};
+ghost use Rattle.binary_office.specs.Walk.{stepAt};
 ghost use Rattle.binary_office.specs.Look.{look, sameLock};
-ghost use Rattle.sheet.specs.Facts.{flag, facts, lookNumber, lookFacts, bitsOf, thereOf, majorOf, minorOf, lockNumber, openNumber, openFacts, Opens};
+ghost use Rattle.sheet.specs.Facts.{flag, facts, lookNumber, lookFacts, recordNumber, recordFacts, bitsOf, thereOf, majorOf, minorOf, lockNumber, openNumber, openFacts, Opens};
 
 // True is 1.
 fn flag(b: bool) -> u64
@@ -73,6 +74,31 @@ fn look_number(verdict: binary_office::Verdict) -> u32
     }
 }
 
+// The facts of what stands at an offset.
+fn record_facts(step: binary_office::Step) -> [u64; 8]
+    ensures { λ r. ⌜ r ≡ recordFacts step ⌝ }
+{
+    match step {
+        binary_office::Step::Record(id, len) => {
+            let clear = binary_office::clear_len(id, len);
+            facts(id as u64, len as u64, clear as u64, 0, 0)
+        }
+        binary_office::Step::Fault(at) => facts(at as u64, 0, 0, 0, 0),
+        binary_office::Step::End => facts(0, 0, 0, 0, 0),
+    }
+}
+
+// The number of what stands at an offset.
+fn record_number(step: binary_office::Step) -> u32
+    ensures { λ r. ⌜ r ≡ recordNumber step ⌝ }
+{
+    match step {
+        binary_office::Step::Record(_, _) => 1,
+        binary_office::Step::Fault(_) => 2,
+        binary_office::Step::End => 0,
+    }
+}
+
 // The number of a lock.
 fn lock_number(lock: excel97::Lock) -> u64
     ensures { λ r. ⌜ r ≡ lockNumber lock ⌝ }
@@ -132,6 +158,16 @@ pub extern "C" fn sheet_same_lock(a: &[u8], b: &[u8]) -> bool
     ensures { λ r. ⌜ r ≡ sameLock (now (a .entry)) (now (b .entry)) ⌝ }
 {
     binary_office::same_lock(a, b)
+}
+
+// A step of the walk: what stands at an offset.
+#[no_mangle]
+pub extern "C" fn sheet_record(stream: &[u8], at: usize, told: &mut [u64; 8]) -> u32
+    ensures { λ r. ⌜ (r ≡ recordNumber (stepAt (now (stream .entry)) at)) × (now (told .exit) ≡ recordFacts (stepAt (now (stream .entry)) at)) ⌝ }
+{
+    let step = binary_office::step_at(stream, at);
+    *told = record_facts(step);
+    record_number(step)
 }
 
 // Open.
