@@ -1,0 +1,251 @@
+//! Feeds a case to both sides, compares all that comes of it, and keeps count.
+
+use crate::generate::Case;
+use crate::oracle::{self, Answer};
+use crate::paper;
+use crate::port::{self, SCRATCH_LEN};
+use std::collections::BTreeMap;
+use std::time::{Duration, Instant};
+
+/// Bytes behind what is lent, which nobody may write to.
+const GUARD: usize = 64;
+/// How many differences are printed.
+const PRINTED: usize = 20;
+/// The most bytes of an input that are printed.
+const HEX: usize = 4096;
+/// How long the smallest difference is reduced.
+const REDUCING: Duration = Duration::from_secs(10);
+
+type Look = (u32, [u64; 5]);
+/// What was compared before: a stream and what Look says of it.
+type Before = Option<(Vec<u8>, Look)>;
+
+#[derive(Default)]
+pub struct Compare {
+    scratch: Vec<u8>,
+    output: Vec<u8>,
+    before: Before,
+    cases: u64,
+    looks: [u64; 3],
+    pairs: [u64; 2],
+    numbers: BTreeMap<u32, u64>,
+    /// By lock, key bits and whether the summary is sealed.
+    opened: BTreeMap<[u64; 3], u64>,
+    sealed_from_plain: u64,
+    differences: u64,
+    first: Vec<String>,
+    /// The shortest stream that differs, with what was compared before it.
+    smallest: Option<(Case, Before)>,
+}
+
+/// Whether all bytes are this one.
+fn all(bytes: &[u8], byte: u8) -> bool {
+    bytes.is_empty() || bytes[0] == byte && bytes[1..] == bytes[..bytes.len() - 1]
+}
+
+fn first_unequal(a: &[u8], b: &[u8]) -> usize {
+    a.iter().zip(b).position(|(a, b)| a != b).unwrap_or(a.len().min(b.len()))
+}
+
+impl Compare {
+    /// Compares one case, counts it, and keeps it if it is a difference.
+    pub fn case(&mut self, case: Case) {
+        let mut faults = Vec::new();
+        let (look, answer) = self.faults(&case, &mut faults);
+        self.cases += 1;
+        if let Ok((number, _)) = look {
+            self.looks[number as usize] += 1;
+        }
+        if let Ok(answer) = answer {
+            *self.numbers.entry(answer.number).or_default() += 1;
+            if answer.number == 0 {
+                let [_, lock, key_bits, sealed] = answer.facts;
+                *self.opened.entry([lock, key_bits, sealed]).or_default() += 1;
+                self.sealed_from_plain += u64::from(case.plain.is_some());
+            }
+        }
+        if !faults.is_empty() {
+            self.differences += 1;
+            if self.first.len() < PRINTED {
+                self.first.push(format!("{} {}, {} bytes: {}", case.part, case.index, case.stream.len(), faults.join("; ")));
+            }
+            if self.smallest.as_ref().is_none_or(|(smallest, _)| case.stream.len() < smallest.stream.len()) {
+                self.smallest = Some((case.clone(), self.before.clone()));
+            }
+        }
+        self.before = look.ok().map(|look| (case.stream, look));
+    }
+
+    /// The oracle's answers, and in what the port's differ.
+    fn faults(&mut self, case: &Case, faults: &mut Vec<String>) -> (Result<Look, String>, Result<Answer, String>) {
+        let stream = &case.stream[..];
+        let password = std::str::from_utf8(&case.password).unwrap_or("");
+        let container = oracle::container(stream, password);
+
+        let look = oracle::look(&container);
+        match &look {
+            Err(text) => faults.push(format!("look: the oracle gives {text}")),
+            Ok(look) => {
+                self.compare_looks(stream, look, faults);
+            }
+        }
+
+        let answer = match paper::lent(stream.len(), &case.password, case.scratch_len, case.output_len) {
+            Some(number) => Ok(Answer::refusal(number, [0, 0])),
+            None => oracle::open(&container, stream, password),
+        };
+        match &answer {
+            Err(text) => faults.push(format!("open: the oracle gives {text}, which has no number")),
+            Ok(answer) => self.compare_opens(case, answer, faults),
+        }
+        (look, answer)
+    }
+
+    fn compare_looks(&mut self, stream: &[u8], look: &Look, faults: &mut Vec<String>) {
+        let mut facts = [0; 8];
+        facts[..5].copy_from_slice(&look.1);
+        let ours = port::look(stream);
+        if ours != (look.0, facts) {
+            faults.push(format!("look: port {ours:?}, oracle {look:?}"));
+        }
+        let this = (stream, look);
+        let before = self.before.as_ref().map_or(this, |(stream, look)| (stream, look));
+        for (a, b) in [(this, this), (before, this), (this, before)] {
+            let same = oracle::same_lock(a.1, b.1);
+            let ours = port::same_lock(a.0, b.0);
+            if ours != u8::from(same) {
+                faults.push(format!("same lock: port {ours}, oracle {same} of {:?} and {:?}", a.1, b.1));
+            }
+            self.pairs[usize::from(same)] += 1;
+        }
+    }
+
+    fn compare_opens(&mut self, case: &Case, answer: &Answer, faults: &mut Vec<String>) {
+        // a byte that changes from case to case, and is not 0
+        let mark = (case.index % 255) as u8 + 1;
+        self.scratch.clear();
+        self.scratch.resize(case.scratch_len + GUARD, mark);
+        self.output.clear();
+        self.output.resize(case.output_len + GUARD, mark);
+        let (scratch, output) = (&mut self.scratch[..case.scratch_len], &mut self.output[..case.output_len]);
+        let (number, facts) = port::open(&case.stream, &case.password, scratch, output);
+
+        if number != answer.number || facts[..4] != answer.facts || facts[4..] != [0; 4] {
+            faults.push(format!("open: port {number} {facts:?}, oracle {} {:?}", answer.number, answer.facts));
+        }
+        let (plain, rest) = self.output.split_at(answer.plain.len());
+        if plain != answer.plain {
+            let at = first_unequal(plain, &answer.plain);
+            faults.push(format!("open: byte {at} of the output is {:02x}, the oracle's {:02x}", plain[at], answer.plain[at]));
+        }
+        if !all(rest, mark) {
+            faults.push("open: the output is written to beyond the plain stream".to_string());
+        }
+        let wiped = if (1..=5).contains(&answer.number) { 0 } else { SCRATCH_LEN };
+        if !all(&self.scratch[..wiped], 0) || !all(&self.scratch[wiped..], mark) {
+            faults.push("open: the scratch is not as it should be".to_string());
+        }
+        if case.plain.as_ref().is_some_and(|plain| answer.number != 0 || *plain != answer.plain) {
+            faults.push(format!("open: the oracle does not give back what was sealed, but {} {:?}", answer.number, answer.facts));
+        }
+    }
+
+    /// Leaves out what a difference does not need, as long as it stays one and the time is not up.
+    fn reduce(&mut self, mut case: Case) -> Case {
+        case.plain = None;
+        let mut differs = |case: &Case| {
+            let mut faults = Vec::new();
+            let _ = self.faults(case, &mut faults);
+            !faults.is_empty()
+        };
+        if !differs(&case) {
+            return case;
+        }
+        let start = Instant::now();
+        let room = case.output_len as isize - case.stream.len() as isize;
+        let mut leave_out = |case: &mut Case, from: usize, to: usize| {
+            if start.elapsed() > REDUCING {
+                return false;
+            }
+            let mut less = case.clone();
+            less.stream.drain(from..to);
+            less.output_len = (less.stream.len() as isize + room).max(0) as usize;
+            let differs = differs(&less);
+            if differs {
+                *case = less;
+            }
+            differs
+        };
+        // whole records, the last first; then fewer and fewer bytes
+        for record in paper::records(&case.stream.clone()).collect::<Vec<_>>().iter().rev() {
+            leave_out(&mut case, record.at, record.end);
+        }
+        let mut step = case.stream.len() / 2;
+        while step > 0 {
+            let mut at = 0;
+            while at + step <= case.stream.len() {
+                if !leave_out(&mut case, at, at + step) {
+                    at += step;
+                }
+            }
+            step /= 2;
+        }
+        case
+    }
+
+    /// Prints the counts and the differences; whether there is none, and every outcome that can occur did.
+    pub fn summary(mut self, seed: u64) -> bool {
+        println!("cases\t{}", self.cases);
+        println!("look\tunknown {}, no {}, yes {}", self.looks[0], self.looks[1], self.looks[2]);
+        println!("same lock\tno {}, yes {}", self.pairs[0], self.pairs[1]);
+        println!("number\tcases");
+        for (number, count) in &self.numbers {
+            println!("{number}\t{count}");
+        }
+        println!("opened, by lock, key bits and summary\tcases");
+        for ([lock, key_bits, sealed], count) in &self.opened {
+            let lock = ["XOR", "1.1", "CryptoAPI"][*lock as usize];
+            println!("{lock} {key_bits}{}\t{count}", if *sealed == 1 { " sealed" } else { "" });
+        }
+        println!("of them compared with what was sealed\t{}", self.sealed_from_plain);
+        let never = self.never();
+        println!("outcomes that never occurred\t{}", if never.is_empty() { "none".to_string() } else { never.join(", ") });
+        println!("differences\t{}", self.differences);
+        for line in &self.first {
+            println!("  {line}");
+        }
+        if let Some((case, before)) = self.smallest.take() {
+            println!("the smallest: seed {seed}, {} {}", case.part, case.index);
+            print_input(&case);
+            if let Some((stream, _)) = &before {
+                println!("  after stream {}", hex(stream));
+            }
+            self.before = before;
+            let reduced = self.reduce(case);
+            println!("reduced:");
+            print_input(&reduced);
+        }
+        self.differences == 0 && never.is_empty()
+    }
+
+    /// Of what can occur in a run: questions 1 to 3 and 5 to 27, and every lock with each of its key sizes.
+    fn never(&self) -> Vec<String> {
+        let numbers = (0..=27).filter(|number| *number != 4 && !self.numbers.contains_key(number)).map(|number| number.to_string());
+        let mut reports = vec![[0, 0, 0], [1, 40, 0]];
+        for key_bits in (40..=128).step_by(8) {
+            reports.extend([[2, key_bits, 0], [2, key_bits, 1]]);
+        }
+        let reports = reports.iter().filter(|report| !self.opened.contains_key(*report)).map(|report| format!("opened {report:?}"));
+        numbers.chain(reports).collect()
+    }
+}
+
+fn print_input(case: &Case) {
+    println!("  password {} (scratch of {}, output of {})", hex(&case.password), case.scratch_len, case.output_len);
+    println!("  stream {}", hex(&case.stream));
+}
+
+fn hex(bytes: &[u8]) -> String {
+    let digits: String = bytes.iter().take(HEX).map(|byte| format!("{byte:02x}")).collect();
+    digits + if bytes.len() > HEX { " and more" } else { "" }
+}

@@ -1,0 +1,93 @@
+//! What document 01's words say of a stream where the Rust gives no value: the number of records, the lock and its key bits,
+//! the flags of questions 18 to 20, and questions 1 to 5.
+
+use crate::port::{PASSWORD_MAX_LEN, SCRATCH_LEN, STREAM_MAX_LEN};
+
+pub const BOF: u16 = 0x0809;
+pub const FILEPASS: u16 = 0x002F;
+pub const BOUND_SHEET: u16 = 0x0085;
+/// The ids whose bodies are never enciphered.
+pub const SEVEN: [u16; 7] = [BOF, FILEPASS, 0x00E1, 0x0138, 0x0194, 0x0195, 0x0196];
+/// Look reads no more of a stream.
+pub const LOOK_CAP: usize = 1 << 20;
+
+pub fn u16_at(bytes: &[u8], at: usize) -> Option<u16> {
+    Some(u16::from_le_bytes(bytes.get(at..at + 2)?.try_into().unwrap()))
+}
+
+pub fn u32_at(bytes: &[u8], at: usize) -> Option<u32> {
+    Some(u32::from_le_bytes(bytes.get(at..at + 4)?.try_into().unwrap()))
+}
+
+/// A record: where its header stands, its id, and where its body starts and ends.
+pub struct Record {
+    pub at: usize,
+    pub id: u16,
+    pub start: usize,
+    pub end: usize,
+}
+
+impl Record {
+    /// How many bytes at the body's start are never enciphered.
+    pub fn clear(&self) -> usize {
+        let len = self.end - self.start;
+        if SEVEN.contains(&self.id) {
+            len
+        } else if self.id == BOUND_SHEET {
+            len.min(4)
+        } else {
+            0
+        }
+    }
+}
+
+/// The records of a stream, up to the first that can't be read.
+pub fn records(stream: &[u8]) -> impl Iterator<Item = Record> + '_ {
+    let mut at = 0;
+    std::iter::from_fn(move || {
+        let (id, len) = (u16_at(stream, at)?, u16_at(stream, at + 2)?);
+        let record = Record { at, id, start: at + 4, end: at + 4 + len as usize };
+        if record.end > stream.len() {
+            return None;
+        }
+        at = record.end;
+        Some(record)
+    })
+}
+
+/// The body of the first FILEPASS.
+pub fn filepass(stream: &[u8]) -> Option<&[u8]> {
+    let record = records(stream).find(|record| record.id == FILEPASS)?;
+    Some(&stream[record.start..record.end])
+}
+
+/// The flags of a CryptoAPI lock: at header byte 0, which is structure byte 12 and body byte 14.
+pub fn flags(stream: &[u8]) -> Option<u32> {
+    u32_at(filepass(stream)?, 14)
+}
+
+/// The number of records, the lock (0 XOR, 1 the 1.1 lock, 2 CryptoAPI) and the key bits of a stream that was opened.
+pub fn report(stream: &[u8]) -> Option<[u64; 3]> {
+    let count = records(stream).count() as u64;
+    let body = filepass(stream)?;
+    if u16_at(body, 0)? == 0 {
+        return Some([count, 0, 0]);
+    }
+    if (u16_at(body, 2)?, u16_at(body, 4)?) == (1, 1) {
+        return Some([count, 1, 40]);
+    }
+    let stated = u32_at(body, 30)?;
+    Some([count, 2, if stated == 0 { 40 } else { stated.into() }])
+}
+
+/// Questions 1 to 5, on what is lent: the first that is answered "no".
+pub fn lent(stream_len: usize, password: &[u8], scratch_len: usize, output_len: usize) -> Option<u32> {
+    let answers = [
+        password.len() <= PASSWORD_MAX_LEN,
+        std::str::from_utf8(password).is_ok(),
+        scratch_len >= SCRATCH_LEN,
+        stream_len <= STREAM_MAX_LEN,
+        output_len >= stream_len,
+    ];
+    answers.iter().position(|yes| !yes).map(|k| k as u32 + 1)
+}

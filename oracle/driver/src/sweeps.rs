@@ -1,0 +1,258 @@
+//! The fixed cases, which every run starts with: every short stream over a small alphabet, sweeps over small books, and books around Look's cap.
+
+use crate::generate::{Case, ALPHABET};
+use crate::lock::{filepass, put_record, CryptoApi, Lock};
+use crate::paper::{records, BOF, BOUND_SHEET, FILEPASS, LOOK_CAP};
+use crate::port::{PASSWORD_MAX_LEN, SCRATCH_LEN};
+use crate::random::Random;
+
+pub fn all(give: &mut dyn FnMut(Case)) {
+    exhaustive(give);
+    damaged_bytes(give);
+    fields(give);
+    several_faults(give);
+    lendings(give);
+    around_cap(give);
+}
+
+/// Every tail of up to 4 bytes of the alphabet, behind nothing, behind a BOF and perhaps one more record, and behind a BOF and the
+/// start of a FILEPASS.
+fn exhaustive(give: &mut dyn FnMut(Case)) {
+    let bof = vec![0x09, 0x08, 0, 0];
+    let mut heads = vec![Vec::new(), bof.clone()];
+    for record in [&[0x42, 0, 0, 0][..], &[0xE1, 0, 0, 0], &[0x85, 0, 1, 0, 0x2F], &[0x09, 0x08, 1, 0, 0x2F]] {
+        heads.push([&bof[..], record].concat());
+    }
+    for len in [0, 1, 2, 3, 4, 6, 8, 0xFF] {
+        heads.push([&bof[..], &[0x2F, 0, len, 0]].concat());
+    }
+    for body in [&[0, 0][..], &[1, 0], &[1, 0, 1], &[1, 0, 2, 0], &[1, 0, 1, 0, 1, 0]] {
+        for len in [6, 8] {
+            heads.push([&bof[..], &[0x2F, 0, len, 0], body].concat());
+        }
+    }
+    let mut index = 0;
+    for head in heads {
+        for len in 0..=4 {
+            for number in 0..ALPHABET.len().pow(len) {
+                let tail = (0..len).map(|k| ALPHABET[number / ALPHABET.len().pow(k) % ALPHABET.len()]);
+                let stream = head.iter().copied().chain(tail).collect();
+                give(Case::new("short", index, stream, "A"));
+                index += 1;
+            }
+        }
+    }
+}
+
+/// Books of a few records: two under XOR, one under 1.1, and CryptoAPI with every key size that may be stated, summary clear and sealed.
+fn small_books(random: &mut Random) -> Vec<(Vec<u8>, &'static str)> {
+    let mut locks = vec![(Lock::Xor, "A"), (Lock::Xor, "\u{E9}t\u{E9}"), (Lock::Office97, "lift angle")];
+    for key_size in [128, 40, 0, 56, 48, 64, 72, 80, 88, 96, 104, 112, 120] {
+        for flags in [0x0C, 0x04] {
+            locks.push((Lock::CryptoApi(CryptoApi::plain(key_size, flags)), "lift angle"));
+        }
+    }
+    let mut books = Vec::new();
+    for (lock, password) in locks {
+        let (body, keys) = filepass(&lock, password, random);
+        let mut stream = Vec::new();
+        put_record(&mut stream, BOF, &[]);
+        put_record(&mut stream, FILEPASS, &body);
+        put_record(&mut stream, BOUND_SHEET, &[1, 2, 3, 4, 5]);
+        put_record(&mut stream, 0x0042, &[7, 8]);
+        keys.seal(&mut stream);
+        books.push((stream, password));
+    }
+    books
+}
+
+/// How many of the small books have every byte changed.
+const FLIPPED: usize = 9;
+
+/// Of each small book: itself and every truncation. Of the first ones also every other value of every byte but those of enciphered bodies.
+fn damaged_bytes(give: &mut dyn FnMut(Case)) {
+    let mut index = 0;
+    let mut next = |part: &'static str, stream: Vec<u8>, password: &str| {
+        give(Case::new(part, index, stream, password));
+        index += 1;
+    };
+    for (number, (stream, password)) in small_books(&mut Random::new(0, 0)).into_iter().enumerate() {
+        next("small", stream.clone(), password);
+        for len in 0..stream.len() {
+            next("truncated", stream[..len].to_vec(), password);
+        }
+        if number >= FLIPPED {
+            continue;
+        }
+        for record in records(&stream) {
+            for at in record.at..record.start + record.clear() {
+                for change in 1..=255 {
+                    let mut flipped = stream.clone();
+                    flipped[at] ^= change;
+                    next("flipped", flipped, password);
+                }
+            }
+        }
+    }
+}
+
+/// A CryptoAPI lock with every value of every field up to the greatest that means anything, and around the AlgIDs; and a FILEPASS of every
+/// length under the three families.
+fn fields(give: &mut dyn FnMut(Case)) {
+    const LONG_BODY: usize = 1200;
+    // type, major, minor, header size, flags, AlgID, AlgIDHash, key size, salt size, hash size: offset in the body, width
+    const FIELDS: [(usize, usize); 10] = [(0, 2), (2, 2), (4, 2), (10, 4), (14, 4), (22, 4), (26, 4), (30, 4), (46, 4), (82, 4)];
+    let random = &mut Random::new(0, 2);
+    let mut index = 0;
+    let mut next = |part: &'static str, body: &[u8], password: &str| {
+        let mut stream = Vec::new();
+        put_record(&mut stream, BOF, &[]);
+        put_record(&mut stream, FILEPASS, body);
+        put_record(&mut stream, 0x0042, &[7, 8]);
+        give(Case::new(part, index, stream, password));
+        index += 1;
+    };
+    let long_body = |lock: Lock, password: &str, random: &mut Random| {
+        let (body, _) = filepass(&lock, password, random);
+        let rest = random.bytes(LONG_BODY - body.len());
+        [body, rest].concat()
+    };
+    let api = || Lock::CryptoApi(CryptoApi::plain(128, 0x04));
+    let body = long_body(api(), "lift angle", random);
+    for (at, width) in FIELDS {
+        for value in (0..=4200u32).chain(0x6780..=0x6880).chain(0x7F80..=0x8080) {
+            let mut changed = body.clone();
+            changed[at..at + width].copy_from_slice(&value.to_le_bytes()[..width]);
+            next("field", &changed, "lift angle");
+        }
+    }
+    for (lock, password) in [(Lock::Xor, "A"), (Lock::Office97, "lift angle"), (api(), "lift angle")] {
+        let body = long_body(lock, password, random);
+        for len in 0..=LONG_BODY {
+            next("length", &body[..len], password);
+        }
+    }
+}
+
+/// Under each family, every set of up to four of these faults at once, so that the order of the questions shows.
+fn several_faults(give: &mut dyn FnMut(Case)) {
+    const FAULTS: u32 = 24;
+    const MOST: u32 = 4;
+    let random = &mut Random::new(0, 3);
+    let mut index = 0;
+    for lock in [Lock::Xor, Lock::Office97, Lock::CryptoApi(CryptoApi::plain(128, 0x0C))] {
+        let (sound, _) = filepass(&lock, "A", random);
+        for set in (0..1u32 << FAULTS).filter(|set| set.count_ones() <= MOST) {
+            let fault = |number: u32| set >> number & 1 != 0;
+            let mut body = sound.clone();
+            // bits turned in the body, by offset: questions 11, 13, 16, 17, 18, 19, 20, 21, 22, 23, 25, 26
+            let bits = [(0, 2), (4, 1), (10, 0x3F), (11, 3), (14, 0x10), (14, 0x20), (14, 0x04), (22, 3), (26, 1), (30, 0xA7), (46, 0x1F), (82, 1)];
+            for (number, (at, turned)) in (0..).zip(bits) {
+                if let Some(byte) = body.get_mut(at).filter(|_| fault(number)) {
+                    *byte ^= turned;
+                }
+            }
+            // a body that is cut: questions 10, 12, 15 and, by family, 10, 14 and 24
+            for (number, len) in (12..).zip([1, 5, 13, sound.len() - 1]) {
+                if fault(number) {
+                    body.truncate(len);
+                }
+            }
+            // the stream around it: questions 7, 9, 8, 6
+            let mut stream = Vec::new();
+            put_record(&mut stream, if fault(16) { 0x0009 } else { BOF }, &[]);
+            if fault(17) {
+                put_record(&mut stream, 0x0086, &[]);
+            }
+            put_record(&mut stream, if fault(18) { 0x00E1 } else { FILEPASS }, &body);
+            put_record(&mut stream, 0x0042, &[7, 8]);
+            if fault(19) {
+                stream.pop();
+            }
+            // the password, the scratch and the output: questions 27, 2, 3, 5; question 1 is swept with the lendings
+            let mut case = Case::new("several faults", index, stream, if fault(20) { "B" } else { "A" });
+            if fault(21) {
+                case.password.push(0x80);
+            }
+            if fault(22) {
+                case.scratch_len = SCRATCH_LEN - 1;
+            }
+            if fault(23) {
+                case.output_len = case.stream.len() - 1;
+            }
+            give(case);
+            index += 1;
+        }
+    }
+}
+
+/// Bytes on both sides of every bound in RFC 3629's table.
+#[rustfmt::skip]
+const UTF8_BOUNDS: [u8; 22] = [
+    0x00, 0x7F, 0x80, 0x8F, 0x90, 0x9F, 0xA0, 0xBF, 0xC0, 0xC1, 0xC2, 0xDF, 0xE0, 0xE1, 0xEC, 0xED, 0xEE, 0xEF, 0xF0, 0xF3, 0xF4, 0xF5,
+];
+
+/// Questions 1 to 3 and 5: every password of one or two bytes, those of three and four bytes at RFC 3629's bounds, passwords around the
+/// greatest length, and every scratch and output around what is needed, also several at once.
+fn lendings(give: &mut dyn FnMut(Case)) {
+    let (stream, right) = small_books(&mut Random::new(0, 0)).swap_remove(0);
+    let mut index = 0;
+    let mut next = |password: Vec<u8>, scratch_len: usize, output_len: usize| {
+        let case = Case::new("lent", index, stream.clone(), "");
+        give(Case { password, scratch_len, output_len, ..case });
+        index += 1;
+    };
+    for first in 0..=255 {
+        next(vec![first], SCRATCH_LEN, stream.len());
+        for second in 0..=255 {
+            next(vec![first, second], SCRATCH_LEN, stream.len());
+        }
+    }
+    let bounds = UTF8_BOUNDS.len();
+    for len in [3, 4] {
+        for number in 0..bounds.pow(len) {
+            let password = (0..len).map(|k| UTF8_BOUNDS[number / bounds.pow(k) % bounds]).collect();
+            next(password, SCRATCH_LEN, stream.len());
+        }
+    }
+    let long = "x".repeat(PASSWORD_MAX_LEN);
+    let passwords = [right.into(), long.clone(), long.clone() + "x", long.clone() + "\u{E9}"].map(String::into_bytes);
+    let cut = [long.as_bytes(), &[0xC3]].concat();
+    for password in passwords.into_iter().chain([vec![0xC3], cut]) {
+        for scratch_len in [0, 1, SCRATCH_LEN - 1, SCRATCH_LEN, SCRATCH_LEN + 1, 2 * SCRATCH_LEN] {
+            for output_len in 0..stream.len() + 4 {
+                next(password.clone(), scratch_len, output_len);
+            }
+        }
+    }
+}
+
+/// Books whose FILEPASS stands around Look's cap, at every offset from well before to just behind, after clear records only.
+fn around_cap(give: &mut dyn FnMut(Case)) {
+    let mut random = Random::new(0, 1);
+    let mut index = 0;
+    let books = small_books(&mut random);
+    // one book of each family
+    for (stream, password) in [&books[0], &books[2], &books[4]] {
+        for at in LOOK_CAP - 42..LOOK_CAP + 3 {
+            for longest in [65_535, 3] {
+                let mut book = clear_chain(at, longest, &mut random);
+                book.extend(&stream[4..]);
+                give(Case::new("around the cap", index, book, password));
+                index += 1;
+            }
+        }
+    }
+}
+
+/// BOF and records of clear ids but FILEPASS, of this many bytes in all: bodies of up to `longest` bytes, which is at least 3.
+fn clear_chain(len: usize, longest: usize, random: &mut Random) -> Vec<u8> {
+    let mut chain = Vec::with_capacity(len);
+    put_record(&mut chain, BOF, &[]);
+    while chain.len() < len {
+        let left = len - chain.len() - 4;
+        let body = if left <= longest { left } else { longest.min(left - 4) };
+        put_record(&mut chain, random.pick(&[BOF, 0x00E1, 0x0138, 0x0194, 0x0195, 0x0196]), &random.bytes(body));
+    }
+    chain
+}
