@@ -1,0 +1,157 @@
+// Runs a sample of the Rust source's own answers through the C exports: Look's verdict, Open's answer and every byte of
+// the plain stream, with the scratch and the rest of the output as they must be left. Prints how many cases had each outcome,
+// and how many differ. oracle/README.md says how the sample is made.
+use libc::STDOUT_FILENO;
+use samples::lent_byte;
+use samples::number;
+use samples::part;
+ghost use mathlib.Core.Path.{_≡_};
+ghost use lib.ListN.{length};
+
+fn data_buffer() -> [u8; 262144]
+    ensures { λ r. ⌜ 262144 ≡ length r ⌝ }
+{
+    [0; 262144]
+}
+
+// What came of a case: its outcome, and whether all is as the Rust has it.
+struct Ran {
+    answer: u32,
+    same: bool,
+}
+
+// The first byte, or 255 where there is none.
+fn first_of(bytes: &[u8]) -> u8 {
+    if 0 < bytes.len() { bytes[0] } else { 255 }
+}
+
+// Whether the first of some facts are those wanted, numbers of eight bytes.
+fn facts_same(told: &[u64; 8], want: &[u8]) -> bool {
+    let mut same = true;
+    let mut i = 0;
+    while i < 8 {
+        if 8 * i < want.len() {
+            same = same & (told[i] == number(want, 8 * i) as u64) & (number(want, 8 * i + 4) == 0);
+        }
+        i += 1;
+    }
+    same
+}
+
+// Whether the first bytes of a buffer are zero.
+fn zeros(buffer: &[u8], n: usize) -> bool {
+    let mut i = 0;
+    while i < buffer.len() {
+        if (i < n) & (buffer[i] != 0) {
+            return false;
+        }
+        i += 1;
+    }
+    true
+}
+
+// Whether a buffer is as it was lent, from an offset on.
+fn as_lent(buffer: &[u8], from: usize) -> bool {
+    let mut i = 0;
+    while i < buffer.len() {
+        if (from <= i) & (buffer[i] != lent_byte(i)) {
+            return false;
+        }
+        i += 1;
+    }
+    true
+}
+
+// Whether the output is what it must be: the plain stream and then what was lent, or what was lent.
+fn output_same(output: &[u8], answer: u32, plain: &[u8]) -> bool {
+    if answer == 0 {
+        check::same(part(output, 0, plain.len()), plain) & as_lent(output, plain.len())
+    } else {
+        as_lent(output, 0)
+    }
+}
+
+// Runs a case with what is lent. What is wanted: the verdict's number, five facts, the answer's number, four facts, and the
+// plain stream where there is one.
+fn run_lent(
+    password: &[u8],
+    stream: &[u8],
+    want: &[u8],
+    scratch: &mut [u8],
+    output: &mut [u8],
+) -> Ran {
+    let mut seen = [0u64; 8];
+    let mut told = [0u64; 8];
+    let verdict = sheet::sheet_look(stream, &mut seen);
+    let answer = sheet::sheet_open(stream, password, scratch, output, &mut told);
+    let looked = (verdict == first_of(want) as u32) & facts_same(&seen, part(want, 1, 40));
+    let opened = (answer as usize == number(want, 41)) & facts_same(&told, part(want, 45, 32));
+    let wiped = zeros(scratch, 2064) & as_lent(scratch, 2064);
+    let written = output_same(output, answer, part(want, 77, stream.len()));
+    Ran {
+        answer,
+        same: looked & opened & wiped & written,
+    }
+}
+
+// Runs a case.
+fn run(password: &[u8], stream: &[u8], want: &[u8]) -> Ran {
+    let mut scratch = [0u8; 2070];
+    let mut output = [0u8; 16384];
+    samples::lend(&mut scratch);
+    samples::lend(&mut output);
+    run_lent(password, stream, want, &mut scratch, &mut output)
+}
+
+// How many cases had each outcome, 0 for a stream that opens and else the refusal's number; behind them, how many differ.
+const KINDS: usize = 29;
+
+fn counted(counts: &mut [u64; KINDS], k: usize) {
+    if k < 29 {
+        counts[k] = std::num::wrapping_add_u64(counts[k], 1);
+    }
+}
+
+// Runs the cases of a part of the data: password, stream and what is wanted, each behind its length.
+fn run_all(data: &[u8], counts: &mut [u64; KINDS]) {
+    let mut at: usize = 0;
+    while at < data.len() {
+        let password = number(data, at);
+        let stream = number(data, at + 4 + password);
+        let want = number(data, at + 8 + password + stream);
+        let ran = run(
+            part(data, at + 4, password),
+            part(data, at + 8 + password, stream),
+            part(data, at + 12 + password + stream, want),
+        );
+        counted(counts, ran.answer as usize);
+        if !ran.same {
+            counted(counts, 28);
+        }
+        at = at + 12 + password + stream + want;
+    }
+}
+
+// Runs the cases of a file.
+fn run_file(path: &[u8], counts: &mut [u64; KINDS]) {
+    let mut data = data_buffer();
+    let n = samples::read(path, &mut data);
+    run_all(&data[0..n], counts);
+}
+
+fn main() {
+    let mut counts = [0u64; KINDS];
+    run_file(b"cases_1", &mut counts);
+    run_file(b"cases_2", &mut counts);
+    run_file(b"cases_3", &mut counts);
+    let mut k = 0;
+    while k < 28 {
+        io::print_decimal(STDOUT_FILENO, k as u64);
+        io::write_all(STDOUT_FILENO, b"\t");
+        io::print_decimal(STDOUT_FILENO, counts[k]);
+        io::write_all(STDOUT_FILENO, b"\n");
+        k += 1;
+    }
+    io::print_decimal(STDOUT_FILENO, counts[28]);
+    io::write_all(STDOUT_FILENO, b" differ\n");
+}
