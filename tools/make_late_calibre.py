@@ -1,5 +1,6 @@
 #!/usr/bin/env python3
-"""Writes the data of the program `late_calibre`, crates/late_calibre/data/sheets, and what it is to print, crates/late_calibre/stdout.
+"""Writes the data of the program `late_calibre`, crates/late_calibre/data/sheets, and what it is to print, crates/late_calibre/stdout; and the CryptoAPI
+sheet alone with its password, host/examples/calibres.bin and calibres.password.
 
 Usage, at the root of the project: tools/make_late_calibre.py. A sheet is a table of calibres, a Label record (MS-XLS 2.4.148) with the name and an RK
 record (2.4.220) with the lift angle for each. All have 52 degrees but the last, which has 50 and stands past the first kilobyte; books.py locks the
@@ -31,6 +32,9 @@ for name, lock, password in ("XOR", xor, xor.passwords(12)[0]), ("RC4 1.1", Offi
         for part in heading.encode(), tried.encode(), stream:
             sheets += struct.pack("<I", len(part)) + part
         text += f"{heading}: {line}\n"
+pathlib.Path("host/examples").mkdir(parents=True, exist_ok=True)
+pathlib.Path("host/examples/calibres.bin").write_bytes(stream)
+pathlib.Path("host/examples/calibres.password").write_text(password + "\n", encoding="utf-8")
 pathlib.Path("crates/late_calibre/data").mkdir(parents=True, exist_ok=True)
 pathlib.Path("crates/late_calibre/data/sheets").write_bytes(sheets)
 pathlib.Path("crates/late_calibre/stdout").write_text(text, encoding="utf-8")

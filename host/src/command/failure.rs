@@ -1,0 +1,114 @@
+//! Why the command did not do what was asked, in words and as an exit status.
+
+use std::io::{self, ErrorKind, Write};
+use std::process::ExitCode;
+
+use sheet::Refusal;
+
+/// Why the command did not do what was asked.
+#[derive(Debug)]
+pub enum Failure {
+    /// The library refused to open a stream, which is named.
+    Refused(Refusal, String),
+    /// The listing ended at a record that can't be read.
+    Unreadable(String),
+    /// The arguments, the input or the output.
+    Other(String),
+    /// Whoever reads what is printed has gone, as `head` does when it has enough.
+    ReaderGone,
+}
+
+impl Failure {
+    /// A mistake in the arguments.
+    pub fn usage(words: &str) -> Failure {
+        Failure::Other(format!("{words}\n'sheet --help' tells more"))
+    }
+
+    /// Something is wrong with a file or stream.
+    pub fn at(name: &str, words: &str) -> Failure {
+        Failure::Other(format!("{name}: {words}"))
+    }
+
+    /// A file could not be read.
+    pub fn reading(name: &str, error: &io::Error) -> Failure {
+        Failure::at(
+            name,
+            &match error.kind() {
+                ErrorKind::NotFound => "there is no such file: check its name and folder".into(),
+                ErrorKind::PermissionDenied => {
+                    "there is no permission to read it: ask its owner, or copy it to a folder of \
+                     your own"
+                        .into()
+                }
+                ErrorKind::IsADirectory => "this is a folder: name a file in it".into(),
+                ErrorKind::NotADirectory => {
+                    "part of this path is a file and not a folder: check its name and folder".into()
+                }
+                ErrorKind::OutOfMemory => "there is not enough memory to read it".into(),
+                _ => format!("it can't be read: {error}"),
+            },
+        )
+    }
+
+    /// A file or standard output could not be written.
+    pub fn writing(name: &str, error: &io::Error) -> Failure {
+        let words = match error.kind() {
+            ErrorKind::NotFound => "there is no such folder: make it first, or name another".into(),
+            ErrorKind::PermissionDenied => {
+                "there is no permission to write there: name a file in a folder of your own".into()
+            }
+            ErrorKind::StorageFull => {
+                "the disk is full: make room there, or write to another disk".into()
+            }
+            ErrorKind::QuotaExceeded => {
+                "your share of the disk is used up: make room there, or write to another disk"
+                    .into()
+            }
+            ErrorKind::FileTooLarge => {
+                "the file would be larger than is allowed there: write to another disk, or raise \
+                 the limit (ulimit -f)"
+                    .into()
+            }
+            ErrorKind::ReadOnlyFilesystem => "the disk is read-only: write to another disk".into(),
+            ErrorKind::BrokenPipe => "whoever reads it has gone".into(),
+            ErrorKind::NotADirectory => {
+                "part of this path is a file and not a folder: check its name and folder".into()
+            }
+            ErrorKind::InvalidFilename => "the name is too long: name another file".into(),
+            _ => format!("it can't be written: {error}"),
+        };
+        Failure::at(name, &words)
+    }
+
+    /// The same, with more words behind it.
+    pub fn and(self, more: &str) -> Failure {
+        match self {
+            Failure::Other(words) => Failure::Other(format!("{words}; {more}")),
+            other => other,
+        }
+    }
+
+    /// What is said of it.
+    pub fn words(&self) -> String {
+        match self {
+            Failure::Refused(refusal, name) => {
+                format!("{refusal}\nsheet: {name} was not opened, and nothing was written")
+            }
+            Failure::Unreadable(words) | Failure::Other(words) => format!("sheet: {words}"),
+            Failure::ReaderGone => String::new(),
+        }
+    }
+
+    /// Says it on standard error and tells the exit status.
+    pub fn report(self) -> ExitCode {
+        let words = self.words();
+        if !words.is_empty() {
+            // Nobody is left to tell where standard error does not take it.
+            let _ = writeln!(io::stderr(), "{words}");
+        }
+        match self {
+            Failure::Refused(..) | Failure::Unreadable(_) => ExitCode::from(1),
+            Failure::Other(_) | Failure::ReaderGone => ExitCode::from(2),
+        }
+    }
+}

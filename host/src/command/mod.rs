@@ -1,0 +1,174 @@
+//! What the command does, a function for each of its parts.
+
+mod arguments;
+mod failure;
+mod help;
+mod input;
+mod interrupt;
+mod output;
+mod password;
+mod terminal;
+
+use std::ffi::OsString;
+use std::io::{self, BufWriter, ErrorKind, Write};
+use std::process::ExitCode;
+
+use arguments::{Order, PasswordFrom};
+use failure::Failure;
+use input::Input;
+use output::Output;
+use sheet::{Lock, Refusal, Report, Verdict};
+
+/// Does what the arguments ask and tells the exit status.
+pub fn run(arguments: impl Iterator<Item = OsString>) -> ExitCode {
+    interrupt::ignore_file_size_signal();
+    match arguments::parse(arguments).and_then(obey) {
+        Ok(()) => ExitCode::SUCCESS,
+        Err(failure) => failure.report(),
+    }
+}
+
+fn obey(order: Order) -> Result<(), Failure> {
+    match order {
+        Order::Help => print(|out| out.write_all(help::HELP.as_bytes())),
+        Order::Version => print(|out| writeln!(out, "sheet {}", env!("CARGO_PKG_VERSION"))),
+        Order::Refusals => print(write_refusals),
+        Order::Look { file } => {
+            let input = Input::read(&file)?;
+            let verdict = sheet::look(&input.stream);
+            print(|out| write_verdict(out, verdict))
+        }
+        Order::List { file } => list(&Input::read(&file)?),
+        Order::Open {
+            file,
+            out,
+            password,
+        } => open(Input::read(&file)?, &out, &password),
+    }
+}
+
+/// Writes to standard output and sees that all of it arrives.
+fn print(write: impl FnOnce(&mut dyn Write) -> io::Result<()>) -> Result<(), Failure> {
+    let mut out = BufWriter::new(io::stdout().lock());
+    write(&mut out)
+        .and_then(|()| out.flush())
+        .map_err(|error| match error.kind() {
+            ErrorKind::BrokenPipe => Failure::ReaderGone,
+            _ => Failure::writing(output::STANDARD, &error),
+        })
+}
+
+/// A line for each refusal: its number, a tab, its words.
+fn write_refusals(out: &mut dyn Write) -> io::Result<()> {
+    for number in 1..=sheet::REFUSALS {
+        let refusal = Refusal::new(number, [0, 0]);
+        write!(out, "{number}\t{}; {}", refusal.meaning(), refusal.advice())?;
+        if number == 9 {
+            let write_protect = Refusal::new(9, [0x0086, 0]).advice();
+            write!(out, "; if it is WriteProtect (id 0086): {write_protect}")?;
+        }
+        writeln!(out)?;
+    }
+    Ok(())
+}
+
+/// The lines of a verdict: a name, a tab, what is told.
+fn write_verdict(out: &mut dyn Write, verdict: Verdict) -> io::Result<()> {
+    let facts = match verdict {
+        Verdict::Unknown => return writeln!(out, "locked\tunknown"),
+        Verdict::No => return writeln!(out, "locked\tno"),
+        Verdict::Yes(facts) => facts,
+    };
+    writeln!(out, "locked\tyes")?;
+    let lock = match (facts.xor, facts.version) {
+        (true, _) => Some(Lock::Xor),
+        (false, Some((1, 1))) => Some(Lock::Office97),
+        (false, Some((2..=4, 2))) => Some(Lock::CryptoApi),
+        (false, _) => None,
+    };
+    if let Some(lock) = lock {
+        writeln!(out, "lock\t{lock}")?;
+    }
+    if let Some((major, minor)) = facts.version {
+        writeln!(out, "version\t{major}.{minor}")?;
+    }
+    if let Some(bits) = facts.key_size {
+        writeln!(out, "key size\t{bits}")?;
+    }
+    Ok(())
+}
+
+/// Lists the records, a line for each.
+fn list(input: &Input) -> Result<(), Failure> {
+    let mut fault = None;
+    print(|out| {
+        writeln!(out, "at\tid\tlength\tclear")?;
+        for step in sheet::records(&input.stream) {
+            match step {
+                Ok(record) => writeln!(
+                    out,
+                    "{}\t{:04x}\t{}\t{}",
+                    record.at, record.id, record.len, record.clear
+                )?,
+                Err(found) => {
+                    writeln!(out, "unreadable\t{}", found.at)?;
+                    fault = Some(found);
+                }
+            }
+        }
+        Ok(())
+    })?;
+    match fault {
+        None => Ok(()),
+        Some(fault) => {
+            let advice = Refusal::new(6, [fault.at as u64, 0]).advice();
+            Err(Failure::Unreadable(format!(
+                "{}: {fault}; {advice}",
+                input.name
+            )))
+        }
+    }
+}
+
+/// Opens a stream and writes the plain one. What can be told without the password is told before it
+/// is asked for.
+fn open(input: Input, out: &OsString, password_from: &PasswordFrom) -> Result<(), Failure> {
+    let output = Output::prepare(out, &input)?;
+    let stream = &input.stream[..];
+    let refused = |refusal| Failure::Refused(refusal, input.name.clone());
+    let mut scratch = [0; sheet::SCRATCH_LEN];
+    let mut plain = output::room(stream.len())?;
+    let report = {
+        let password = password::get(password_from, &input.name, || {
+            match sheet::open(stream, b"", &mut scratch, &mut plain) {
+                Err(refusal) if !refusal.is_wrong_password() => Err(refused(refusal)),
+                _ => Ok(()),
+            }
+        })?;
+        sheet::open(stream, password.as_bytes(), &mut scratch, &mut plain)
+        // The password is wiped here, before anything is written.
+    }
+    .map_err(refused)?;
+    output.write(&plain)?;
+    if output.is_standard() {
+        // The plain stream is out: a report that standard error does not take changes nothing about
+        // it.
+        let _ = write_report(&mut io::stderr().lock(), &report);
+        Ok(())
+    } else {
+        let whole = format!(
+            "{} is written and whole, only the report is missing",
+            out.to_string_lossy()
+        );
+        print(|to| write_report(to, &report)).map_err(|failure| failure.and(&whole))
+    }
+}
+
+/// The lines of a report: a name, a tab, what is told.
+fn write_report(out: &mut dyn Write, report: &Report) -> io::Result<()> {
+    let sealed = if report.summary_sealed { "yes" } else { "no" };
+    writeln!(out, "records\t{}", report.records)?;
+    writeln!(out, "lock\t{}", report.lock)?;
+    writeln!(out, "key size\t{}", report.key_bits)?;
+    writeln!(out, "summary sealed\t{sealed}")
+}

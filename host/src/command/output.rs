@@ -1,0 +1,243 @@
+//! The plain stream that is written.
+
+use std::ffi::{OsStr, OsString};
+use std::fs::{self, File, OpenOptions, Permissions};
+use std::io::{self, ErrorKind, IsTerminal, Write};
+use std::os::fd::AsFd;
+use std::os::unix::ffi::OsStrExt;
+use std::path::{Path, PathBuf};
+use std::process;
+
+use super::failure::Failure;
+use super::input::{identity, Input};
+use super::interrupt;
+
+/// What standard output is called in messages.
+pub const STANDARD: &str = "standard output";
+
+/// Where the plain stream goes.
+pub enum Output {
+    Standard,
+    File {
+        /// As the user wrote it.
+        name: String,
+        /// The file itself, behind all links.
+        path: PathBuf,
+        /// Of the file that is replaced, which the new one keeps.
+        permissions: Option<Permissions>,
+    },
+}
+
+impl Output {
+    /// Sees that the output can be written, as far as this can be told beforehand, and that it is
+    /// not the input.
+    pub fn prepare(out: &OsStr, input: &Input) -> Result<Output, Failure> {
+        if out == "-" {
+            return standard(input);
+        }
+        let name = out.to_string_lossy().into_owned();
+        let path = Path::new(out);
+        match fs::symlink_metadata(path) {
+            Ok(_) => existing(name, path, input),
+            Err(error) if error.kind() == ErrorKind::NotFound => new(name, out),
+            Err(error) => Err(Failure::writing(&name, &error)),
+        }
+    }
+
+    /// Whether it is standard output.
+    pub fn is_standard(&self) -> bool {
+        matches!(self, Output::Standard)
+    }
+
+    /// Writes all of it. A file gets its name when it is whole, and not before.
+    pub fn write(&self, plain: &[u8]) -> Result<(), Failure> {
+        match self {
+            Output::Standard => {
+                let mut out = io::stdout().lock();
+                out.write_all(plain)
+                    .and_then(|()| out.flush())
+                    .map_err(|error| {
+                        Failure::writing(STANDARD, &error).and("what came out is not whole")
+                    })
+            }
+            Output::File {
+                name,
+                path,
+                permissions,
+            } => replace(path, permissions.as_ref(), plain)
+                .map_err(|error| Failure::writing(name, &error)),
+        }
+    }
+}
+
+/// Memory for the plain stream.
+pub fn room(len: usize) -> Result<Vec<u8>, Failure> {
+    let mut room = Vec::new();
+    if room.try_reserve_exact(len).is_err() {
+        return Err(Failure::at(
+            "out of memory",
+            &format!("the plain stream needs {len} bytes"),
+        ));
+    }
+    room.resize(len, 0);
+    Ok(room)
+}
+
+fn standard(input: &Input) -> Result<Output, Failure> {
+    if io::stdout().is_terminal() {
+        return Err(Failure::at(
+            STANDARD,
+            "this is a terminal, which can't show a workbook: write to a file with -o FILE",
+        ));
+    }
+    let metadata = io::stdout()
+        .as_fd()
+        .try_clone_to_owned()
+        .and_then(|out| File::from(out).metadata());
+    if let Ok(metadata) = metadata {
+        if identity(&metadata).is_some_and(|out| Some(out) == input.identity) {
+            return Err(same_file(STANDARD));
+        }
+    }
+    Ok(Output::Standard)
+}
+
+/// An output that is there already.
+fn existing(name: String, path: &Path, input: &Input) -> Result<Output, Failure> {
+    let metadata = match fs::metadata(path) {
+        Ok(metadata) => metadata,
+        Err(error) if error.kind() == ErrorKind::NotFound => {
+            return Err(Failure::at(
+                &name,
+                "this is a link to a file that is not there: name the file itself",
+            ))
+        }
+        Err(error) => return Err(Failure::writing(&name, &error)),
+    };
+    if metadata.is_dir() {
+        return Err(Failure::at(
+            &name,
+            "this is a folder: name the file to write in it",
+        ));
+    }
+    if !metadata.is_file() {
+        return Err(Failure::at(
+            &name,
+            "this is a device or a pipe and not a file: name a file, or use -o - for standard \
+             output",
+        ));
+    }
+    if identity(&metadata).is_some_and(|out| Some(out) == input.identity) {
+        return Err(same_file(&name));
+    }
+    // A file that could not be written to is not replaced either.
+    OpenOptions::new()
+        .write(true)
+        .open(path)
+        .and_then(|_| fs::canonicalize(path))
+        .map(|path| Output::File {
+            name: name.clone(),
+            path,
+            permissions: Some(metadata.permissions()),
+        })
+        .map_err(|error| Failure::writing(&name, &error))
+}
+
+/// An output that is not there yet.
+fn new(name: String, out: &OsStr) -> Result<Output, Failure> {
+    let path = Path::new(out);
+    if out.as_bytes().ends_with(b"/") || path.file_name().is_none() {
+        return Err(Failure::at(
+            &name,
+            "there is no such folder: make it first, and name the file to write in it",
+        ));
+    }
+    let folder = folder_of(path);
+    match fs::metadata(folder) {
+        Ok(metadata) if metadata.is_dir() => Ok(Output::File {
+            name,
+            path: path.to_path_buf(),
+            permissions: None,
+        }),
+        Err(error) if error.kind() != ErrorKind::NotFound => Err(Failure::writing(&name, &error)),
+        _ => Err(Failure::at(
+            &name,
+            &format!(
+                "there is no folder {}: make it first, or name another",
+                folder.display()
+            ),
+        )),
+    }
+}
+
+fn same_file(name: &str) -> Failure {
+    Failure::at(
+        name,
+        "this is the very file that is read, which stays as it is: name another file to write",
+    )
+}
+
+/// The folder that a file stands in.
+fn folder_of(path: &Path) -> &Path {
+    match path.parent() {
+        Some(folder) if !folder.as_os_str().is_empty() => folder,
+        _ => Path::new("."),
+    }
+}
+
+/// Writes a file under another name beside it, and gives it its name when all of it is on the disk.
+fn replace(path: &Path, permissions: Option<&Permissions>, plain: &[u8]) -> io::Result<()> {
+    let folder = folder_of(path);
+    let (mut file, part) = Part::create(folder)?;
+    if let Some(permissions) = permissions {
+        file.set_permissions(permissions.clone())?;
+    }
+    file.write_all(plain)?;
+    file.sync_all()?;
+    part.rename(path)?;
+    // The name is kept over a power cut too, where the disk can promise it.
+    if let Ok(folder) = File::open(folder) {
+        let _ = folder.sync_all();
+    }
+    Ok(())
+}
+
+/// A file that is not whole yet. It is removed unless it gets its name, also when the command is
+/// interrupted.
+struct Part {
+    path: PathBuf,
+    named: bool,
+}
+
+impl Part {
+    fn create(folder: &Path) -> io::Result<(File, Part)> {
+        let mut count = 0;
+        loop {
+            let name = OsString::from(format!(".sheet-{}-{count}.part", process::id()));
+            let path = folder.join(name);
+            match OpenOptions::new().write(true).create_new(true).open(&path) {
+                Ok(file) => {
+                    interrupt::remove_when_interrupted(&path);
+                    return Ok((file, Part { path, named: false }));
+                }
+                Err(error) if error.kind() == ErrorKind::AlreadyExists && count < 100 => count += 1,
+                Err(error) => return Err(error),
+            }
+        }
+    }
+
+    fn rename(mut self, path: &Path) -> io::Result<()> {
+        fs::rename(&self.path, path)?;
+        self.named = true;
+        Ok(())
+    }
+}
+
+impl Drop for Part {
+    fn drop(&mut self) {
+        if !self.named {
+            let _ = fs::remove_file(&self.path);
+        }
+        interrupt::keep_when_interrupted();
+    }
+}

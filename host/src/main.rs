@@ -1,0 +1,10 @@
+//! The command `sheet`: looks at, lists and opens protected Excel 97-2003 workbook streams. `sheet
+//! --help` tells how.
+
+use std::process::ExitCode;
+
+mod command;
+
+fn main() -> ExitCode {
+    command::run(std::env::args_os().skip(1))
+}

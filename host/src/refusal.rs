@@ -1,0 +1,173 @@
+//! Why a stream was not opened.
+
+use std::error::Error;
+use std::fmt;
+
+/// How many refusals there are: their numbers are 1 to this.
+pub const REFUSALS: u32 = 27;
+
+/// The id of the WriteProtect record.
+const WRITE_PROTECT: u64 = 0x0086;
+
+/// Why a stream was not opened: a number of the list in `include/sheet.h`, and up to two details.
+///
+/// `Display` says what is wrong, where, and what to try:
+///
+/// ```
+/// let refusal = sheet::Refusal::new(6, [3412, 0]);
+/// assert!(refusal.to_string().starts_with(
+///     "refused, 6: a record can't be read, its header or its body is cut off, at offset 3412; "
+/// ));
+/// ```
+#[derive(Clone, Copy, Debug, PartialEq, Eq)]
+pub struct Refusal {
+    number: u32,
+    details: [u64; 2],
+}
+
+impl Refusal {
+    /// The refusal that `sheet_open` answers by a number and two details.
+    pub fn new(number: u32, details: [u64; 2]) -> Self {
+        Refusal { number, details }
+    }
+
+    /// Its number, 1 to 27.
+    pub fn number(&self) -> u32 {
+        self.number
+    }
+
+    /// Its two details, 0 where none is named. What they are depends on the number;
+    /// `include/sheet.h` lists them.
+    pub fn details(&self) -> [u64; 2] {
+        self.details
+    }
+
+    /// Whether another password could help: the stream and its lock are in order.
+    pub fn is_wrong_password(&self) -> bool {
+        self.number == 27
+    }
+
+    /// Whether there is nothing to open: the workbook is not locked, and the stream is plain
+    /// already.
+    pub fn is_not_locked(&self) -> bool {
+        self.number == 8
+    }
+
+    /// Whether a WriteProtect record stands before FILEPASS: the book was also saved as "read-only
+    /// recommended" or with a password to modify.
+    pub fn is_write_protect(&self) -> bool {
+        self.number == 9 && self.details[0] == WRITE_PROTECT
+    }
+
+    /// What is wrong, without the details.
+    pub fn meaning(&self) -> &'static str {
+        match self.number {
+            1 => "the password is longer than 1,024 bytes",
+            2 => "the password is not well-formed UTF-8",
+            3 => "the scratch is shorter than 2,064 bytes",
+            4 => "the stream is longer than 1,073,741,824 bytes",
+            5 => "the output is shorter than the stream",
+            6 => "a record can't be read, its header or its body is cut off",
+            7 => "the stream does not start with a BOF record",
+            8 => "there is no FILEPASS record, so the workbook is not locked",
+            9 => "another record stands before FILEPASS than the format admits",
+            10 => "the FILEPASS record is cut off",
+            11 => "the FILEPASS record names no lock that is known",
+            12 => "the lock's version is cut off",
+            13 => "the lock's version is not one that is read",
+            14 => "the 1.1 lock is cut off",
+            15 => "the CryptoAPI lock is cut off",
+            16 => "the CryptoAPI lock's header does not have 32 to 1,024 bytes",
+            17 => "the CryptoAPI lock's header is cut off",
+            18 => "the CryptoAPI lock is enciphered by a provider of its own (flag 10)",
+            19 => "the CryptoAPI lock says AES (flag 20), which no such workbook has",
+            20 => "the CryptoAPI lock does not say CryptoAPI (flag 04)",
+            21 => "the CryptoAPI lock's cipher is not RC4",
+            22 => "the CryptoAPI lock's hash is not SHA-1",
+            23 => "the CryptoAPI lock's key size is not 0, nor 40 to 128 bits in steps of 8",
+            24 => "the CryptoAPI lock's verifier is cut off",
+            25 => "the CryptoAPI lock's salt does not have 16 bytes",
+            26 => "the CryptoAPI lock's verifier hash does not have 20 bytes",
+            27 => "the password does not pass",
+            _ => "a refusal that this version has no words for",
+        }
+    }
+
+    /// What to try.
+    pub fn advice(&self) -> &'static str {
+        match self.number {
+            1 => "check that the password file holds the password and nothing else",
+            2 => "save the password file as UTF-8, or set the terminal to UTF-8",
+            3 => "the program that calls must lend a scratch of at least that many bytes",
+            4 => "no workbook is that large: check that this is the stream named Workbook",
+            5 => "the program that calls must lend an output at least as long as the stream",
+            6 => {
+                "the stream is cut short or is not a workbook stream: take it out of the .xls file \
+                 anew, or get another copy; if nothing but zeros follows there, the book was \
+                 padded at its end: take those zeros off"
+            }
+            7 => {
+                "this is not a workbook stream: take the stream named Workbook out of the .xls \
+                 file (gsf cat book.xls Workbook > book.bin)"
+            }
+            8 => "there is nothing to open: use the stream as it is",
+            9 if self.is_write_protect() => {
+                "the book was also saved as \"read-only recommended\" or with a password to \
+                 modify; other programs do open such books, and saving the book anew without it \
+                 helps"
+            }
+            9 => "open the book in a spreadsheet program and save it anew, or get another copy",
+            11 => {
+                "known are 0 (XOR) and 1 (RC4), so the stream is damaged: get another copy of the \
+                 book"
+            }
+            13 => {
+                "read are 1.1, 2.2, 3.2 and 4.2: open the book in the program that locked it, and \
+                 save it anew as an Excel 97-2003 workbook"
+            }
+            10 | 12 | 14 | 15 | 24 => "the stream is damaged: get another copy of the book",
+            16..=23 | 25 | 26 => {
+                "the book was locked by a program that does it otherwise, or is damaged: open it \
+                 there and save it anew, or get another copy"
+            }
+            27 => {
+                "check upper and lower case, the keyboard layout, accents and special characters; \
+                 an XOR lock takes 1 to 15 characters, none beyond U+00FF"
+            }
+            _ => "look the number up in the documentation of the library that was linked",
+        }
+    }
+
+    /// Writes the details in words, where there are any.
+    fn write_details(&self, f: &mut fmt::Formatter<'_>) -> fmt::Result {
+        let [first, second] = self.details;
+        match self.number {
+            6 => write!(f, ", at offset {first}"),
+            9 if self.is_write_protect() => f.write_str(": WriteProtect, id 0086"),
+            9 => write!(f, ": id {first:04x}"),
+            10 | 12 | 14 | 15 | 24 => write!(f, ": {first} of {second} bytes are there"),
+            11 => write!(f, ": type {first}"),
+            13 => write!(f, ": {first}.{second}"),
+            17 => write!(
+                f,
+                ": it says {first} bytes, from the 13th of a lock of {second}"
+            ),
+            18..=20 => write!(f, ": flags {first:08x}"),
+            21 => write!(f, ": AlgID {first:08x}"),
+            22 => write!(f, ": AlgIDHash {first:08x}"),
+            16 | 23 | 25 | 26 => write!(f, ": it says {first}"),
+            1..=5 | 7 | 8 | 27 => Ok(()),
+            _ => write!(f, ": details {first} and {second}"),
+        }
+    }
+}
+
+impl fmt::Display for Refusal {
+    fn fmt(&self, f: &mut fmt::Formatter<'_>) -> fmt::Result {
+        write!(f, "refused, {}: {}", self.number, self.meaning())?;
+        self.write_details(f)?;
+        write!(f, "; {}", self.advice())
+    }
+}
+
+impl Error for Refusal {}

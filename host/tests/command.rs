@@ -1,0 +1,728 @@
+//! The command, as a user meets it.
+
+mod common;
+
+use std::fs::{self, File, OpenOptions};
+use std::io::Write;
+use std::os::unix::fs::{symlink, MetadataExt, PermissionsExt};
+use std::os::unix::process::CommandExt;
+use std::path::{Path, PathBuf};
+use std::process::{Command, Output, Stdio};
+
+use common::book::{Book, Kind, BOF, FILEPASS, KINDS};
+use common::folder::Folder;
+
+const SHEET: &str = env!("CARGO_BIN_EXE_sheet");
+const PASSWORD: &str = "Hebungswinkel 50°";
+const REPORT: &str = "records\t186\nlock\tRC4 CryptoAPI\nkey size\t128\nsummary sealed\tno\n";
+
+extern "C" {
+    fn setsid() -> i32;
+    fn geteuid() -> u32;
+    fn setrlimit(what: i32, limit: *const [u64; 2]) -> i32;
+}
+
+/// The resource limit of a file's size.
+const RLIMIT_FSIZE: i32 = 1;
+
+/// What came of a run.
+#[derive(Debug, PartialEq)]
+struct Ran {
+    status: Option<i32>,
+    out: String,
+    err: String,
+}
+
+impl Ran {
+    fn from(output: Output) -> Ran {
+        Ran {
+            status: output.status.code(),
+            out: String::from_utf8(output.stdout).unwrap(),
+            err: String::from_utf8(output.stderr).unwrap(),
+        }
+    }
+
+    /// Sees that it ended with a status and words on standard error, and printed nothing else.
+    #[track_caller]
+    fn failed(&self, status: i32, words: &[&str]) {
+        assert_eq!(self.status, Some(status), "{self:?}");
+        assert_eq!(self.out, "");
+        for word in words {
+            assert!(self.err.contains(word), "{word:?} in {:?}", self.err);
+        }
+    }
+}
+
+/// A folder with the sample book, and the command run in it.
+struct Bench {
+    folder: Folder,
+}
+
+impl Bench {
+    fn new() -> Bench {
+        let folder = Folder::new();
+        for name in ["calibres.bin", "calibres.password"] {
+            let sample = Path::new(env!("CARGO_MANIFEST_DIR"))
+                .join("examples")
+                .join(name);
+            fs::copy(sample, folder.join(name)).unwrap();
+        }
+        Bench { folder }
+    }
+
+    /// The command with these arguments, with no terminal and no password in the environment.
+    fn command(&self, line: &str) -> Command {
+        let mut command = Command::new(SHEET);
+        command
+            .args(line.split_whitespace())
+            .current_dir(self.folder.path())
+            .env_remove("SHEET_PASSWORD")
+            .stdin(Stdio::null());
+        // SAFETY: setsid may be called between fork and exec.
+        unsafe {
+            command.pre_exec(|| {
+                setsid();
+                Ok(())
+            })
+        };
+        command
+    }
+
+    fn run(&self, line: &str) -> Ran {
+        Ran::from(self.command(line).output().unwrap())
+    }
+
+    fn run_with(&self, line: &str, password: &str) -> Ran {
+        let mut command = self.command(line);
+        Ran::from(command.env("SHEET_PASSWORD", password).output().unwrap())
+    }
+
+    fn run_on(&self, line: &str, input: File) -> Ran {
+        let mut command = self.command(line);
+        Ran::from(command.stdin(input).output().unwrap())
+    }
+
+    fn file(&self, name: &str) -> File {
+        File::open(self.folder.join(name)).unwrap()
+    }
+
+    fn read(&self, name: &str) -> Vec<u8> {
+        fs::read(self.folder.join(name)).unwrap()
+    }
+
+    fn write(&self, name: &str, bytes: &[u8]) -> PathBuf {
+        self.folder.write(name, bytes)
+    }
+
+    /// The plain stream of the sample.
+    fn plain(&self) -> Vec<u8> {
+        let stream = self.read("calibres.bin");
+        let mut plain = vec![0; stream.len()];
+        let mut scratch = [0; sheet::SCRATCH_LEN];
+        sheet::open(&stream, PASSWORD.as_bytes(), &mut scratch, &mut plain).unwrap();
+        plain
+    }
+
+    /// Sees that the folder has these files beside the sample, and no others.
+    #[track_caller]
+    fn has_only(&self, others: &[&str]) {
+        let mut expected = [&["calibres.bin", "calibres.password"], others].concat();
+        expected.sort_unstable();
+        assert_eq!(self.folder.names(), expected);
+    }
+}
+
+#[test]
+fn look_tells_the_lock() {
+    let bench = Bench::new();
+    let ran = bench.run("look calibres.bin");
+    assert_eq!((ran.status, &ran.err[..]), (Some(0), ""));
+    assert_eq!(
+        ran.out,
+        "locked\tyes\nlock\tRC4 CryptoAPI\nversion\t2.2\nkey size\t128\n"
+    );
+    for (kind, told) in [
+        (Kind::Xor, "lock\tXOR\n"),
+        (Kind::Office97, "lock\tOffice 97 RC4\nversion\t1.1\n"),
+        (
+            Kind::CryptoApi(40, true),
+            "lock\tRC4 CryptoAPI\nversion\t4.2\nkey size\t40\n",
+        ),
+    ] {
+        let book = Book::small(kind);
+        bench.write("book", &book.locked);
+        bench.write("plain", &book.plain);
+        bench.write("cut", &book.locked[..book.filepass().0 + 2]);
+        let told = format!("locked\tyes\n{told}");
+        for (name, told) in [
+            ("book", &told[..]),
+            ("plain", "locked\tno\n"),
+            ("cut", "locked\tunknown\n"),
+        ] {
+            let ran = bench.run(&format!("look {name}"));
+            assert_eq!(
+                (ran.status, &ran.out[..], &ran.err[..]),
+                (Some(0), told, "")
+            );
+        }
+    }
+    let ran = bench.run_on("look -", bench.file("plain"));
+    assert_eq!((ran.status, &ran.out[..]), (Some(0), "locked\tno\n"));
+    // A lock of an unknown kind, and one whose version is not there.
+    bench.write("strange", b"\x09\x08\0\0\x2F\0\x06\0\x01\0\x07\0\x03\0");
+    let ran = bench.run("look strange");
+    assert_eq!(ran.out, "locked\tyes\nversion\t7.3\n");
+    bench.write("strange", b"\x09\x08\0\0\x2F\0\0\0");
+    assert_eq!(bench.run("look strange").out, "locked\tyes\n");
+}
+
+#[test]
+fn list_lists_the_records() {
+    let bench = Bench::new();
+    // Document 01's example.
+    bench.write(
+        "book",
+        b"\x09\x08\0\0\x2F\0\0\0\x85\0\x06\0\x01\x02\x03\x04\x05\x06\xE1\0\x02\0\x07\x08",
+    );
+    let expected =
+        "at\tid\tlength\tclear\n0\t0809\t0\t0\n4\t002f\t0\t0\n8\t0085\t6\t4\n18\t00e1\t2\t2\n";
+    let ran = bench.run("list book");
+    assert_eq!(
+        (ran.status, &ran.out[..], &ran.err[..]),
+        (Some(0), expected, "")
+    );
+    let ran = bench.run_on("list -", bench.file("book"));
+    assert_eq!((ran.status, &ran.out[..]), (Some(0), expected));
+    assert_eq!(bench.run("list calibres.bin").out.lines().count(), 187);
+    bench.write("empty", b"");
+    let ran = bench.run("list empty");
+    assert_eq!(
+        (ran.status, &ran.out[..]),
+        (Some(0), "at\tid\tlength\tclear\n")
+    );
+}
+
+#[test]
+fn list_ends_at_a_record_that_is_cut_off() {
+    let bench = Bench::new();
+    bench.write("cut", &bench.read("calibres.bin")[..100]);
+    let ran = bench.run("list cut");
+    assert_eq!(ran.status, Some(1));
+    assert_eq!(
+        ran.out,
+        "at\tid\tlength\tclear\n0\t0809\t16\t16\nunreadable\t20\n"
+    );
+    assert!(ran
+        .err
+        .starts_with("sheet: cut: the record at offset 20 can't be read"));
+}
+
+#[test]
+fn open_writes_the_plain_stream() {
+    let bench = Bench::new();
+    let ran = bench.run("open calibres.bin -o plain --password-file calibres.password");
+    assert_eq!(
+        (ran.status, &ran.out[..], &ran.err[..]),
+        (Some(0), REPORT, "")
+    );
+    assert!(bench.read("plain") == bench.plain());
+    let ran = bench.run_with("open -o other calibres.bin", PASSWORD);
+    assert_eq!(
+        (ran.status, &ran.out[..], &ran.err[..]),
+        (Some(0), REPORT, "")
+    );
+    assert!(bench.read("other") == bench.plain());
+    bench.has_only(&["plain", "other"]);
+}
+
+#[test]
+fn open_reports_every_lock() {
+    let bench = Bench::new();
+    for kind in KINDS {
+        let book = Book::long(kind);
+        bench.write("book", &book.locked);
+        let ran = bench.run_with("open book -o plain", book.password);
+        let report = kind.report(book.headers.len());
+        let sealed = if report.summary_sealed { "yes" } else { "no" };
+        let expected = format!(
+            "records\t{}\nlock\t{}\nkey size\t{}\nsummary sealed\t{sealed}\n",
+            report.records, report.lock, report.key_bits
+        );
+        assert_eq!((ran.status, ran.out, &ran.err[..]), (Some(0), expected, ""));
+        assert!(bench.read("plain") == book.plain);
+    }
+}
+
+#[test]
+fn the_password_file_comes_before_the_environment() {
+    let bench = Bench::new();
+    let line = "open calibres.bin -o plain --password-file calibres.password";
+    assert_eq!(bench.run_with(line, "another").status, Some(0));
+    bench.write("wrong", b"another");
+    let line = "open calibres.bin -o plain --password-file wrong";
+    assert_eq!(bench.run_with(line, PASSWORD).status, Some(1));
+}
+
+#[test]
+fn one_newline_of_a_password_file_is_taken_off() {
+    let bench = Bench::new();
+    for (end, status) in [
+        ("", 0),
+        ("\n", 0),
+        ("\r\n", 0),
+        ("\n\n", 1),
+        ("\r", 1),
+        (" \n", 1),
+    ] {
+        bench.write("password", format!("{PASSWORD}{end}").as_bytes());
+        let ran = bench.run("open calibres.bin -o plain --password-file password");
+        assert_eq!(ran.status, Some(status), "{end:?}");
+    }
+    let line = "open calibres.bin -o plain --password-file -";
+    let ran = bench.run_on(line, bench.file("calibres.password"));
+    assert_eq!(ran.status, Some(0));
+}
+
+#[test]
+fn a_wrong_password_is_refused_by_number() {
+    let bench = Bench::new();
+    let ran = bench.run_with("open calibres.bin -o plain", "hebungswinkel 50°");
+    ran.failed(1, &["keyboard layout", "calibres.bin was not opened"]);
+    assert!(ran
+        .err
+        .starts_with("refused, 27: the password does not pass"));
+    assert!(!ran.err.contains("hebungswinkel"));
+    bench
+        .run_with("open calibres.bin -o plain", "")
+        .failed(1, &["refused, 27: "]);
+    bench.has_only(&[]);
+}
+
+#[test]
+fn passwords_that_no_book_has_are_refused_by_number() {
+    let bench = Bench::new();
+    for (bytes, number) in [
+        (vec![b'x'; 1024], 27),
+        (vec![b'x'; 1025], 1),
+        (vec![b'x'; 100_000], 1),
+        (b"Gr\xFC\xDFe".to_vec(), 2),
+        // The mark that a Windows editor puts before "Unicode".
+        (b"\xFF\xFEU".to_vec(), 2),
+    ] {
+        let refused = format!("refused, {number}: ");
+        for end in [&b""[..], b"\n", b"\r\n"] {
+            bench.write("password", &[&bytes, end].concat());
+            let ran = bench.run("open calibres.bin -o plain --password-file password");
+            ran.failed(1, &[&refused]);
+        }
+        let mut command = bench.command("open calibres.bin -o plain");
+        let value: std::ffi::OsString = std::os::unix::ffi::OsStringExt::from_vec(bytes);
+        let ran = Ran::from(command.env("SHEET_PASSWORD", value).output().unwrap());
+        ran.failed(1, &[&refused]);
+    }
+    bench.has_only(&["password"]);
+}
+
+#[test]
+fn streams_that_are_not_in_order_are_refused_by_number() {
+    let bench = Bench::new();
+    let locked = bench.read("calibres.bin");
+    let protected = [(BOF, vec![]), (0x0086, vec![]), (FILEPASS, vec![])];
+    for (stream, words) in [
+        (locked[..1000].to_vec(), "refused, 6: "),
+        ([&locked[..], &[0; 3]].concat(), "at offset 3435; "),
+        (b"plain words, and no book".to_vec(), "refused, 6: "),
+        (Vec::new(), "refused, 7: "),
+        (bench.plain(), "refused, 8: "),
+        (
+            Book::new(Kind::Xor, "A", &protected).locked,
+            "WriteProtect, id 0086",
+        ),
+    ] {
+        bench.write("book", &stream);
+        bench
+            .run_with("open book -o plain", PASSWORD)
+            .failed(1, &[words]);
+        // Without a password the same is said, and none is asked for.
+        bench.run("open book -o plain").failed(1, &[words]);
+    }
+    bench.has_only(&["book"]);
+}
+
+#[test]
+fn no_terminal_and_no_password() {
+    let bench = Bench::new();
+    let ran = bench.run("open calibres.bin -o plain");
+    ran.failed(2, &["no terminal", "--password-file", "SHEET_PASSWORD"]);
+    bench.has_only(&[]);
+}
+
+#[test]
+fn files_that_can_t_be_read() {
+    let bench = Bench::new();
+    fs::create_dir(bench.folder.join("drawer")).unwrap();
+    for command in ["look", "list", "open -o plain"] {
+        bench
+            .run_with(&format!("{command} drawer"), PASSWORD)
+            .failed(2, &["sheet: drawer: ", "folder"]);
+        bench
+            .run_with(&format!("{command} none"), PASSWORD)
+            .failed(2, &["sheet: none: ", "no such file"]);
+        bench
+            .run_with(&format!("{command} calibres.bin/x"), PASSWORD)
+            .failed(2, &["sheet: calibres.bin/x: ", "not a folder"]);
+        let drawer = File::open(bench.folder.join("drawer")).unwrap();
+        let mut child = bench.command(&format!("{command} -"));
+        let ran = Ran::from(
+            child
+                .env("SHEET_PASSWORD", PASSWORD)
+                .stdin(drawer)
+                .output()
+                .unwrap(),
+        );
+        ran.failed(2, &["standard input", "folder"]);
+    }
+    for (file, words) in [("none", "no such file"), ("drawer", "folder")] {
+        let line = format!("open calibres.bin -o plain --password-file {file}");
+        bench
+            .run(&line)
+            .failed(2, &["sheet: password file ", file, words]);
+    }
+    bench.has_only(&["drawer"]);
+}
+
+#[test]
+fn compound_files_are_told_from_streams() {
+    let bench = Bench::new();
+    bench.write("book.xls", b"\xD0\xCF\x11\xE0\xA1\xB1\x1A\xE1 and more");
+    for command in ["look", "list", "open -o plain"] {
+        let ran = bench.run_with(&format!("{command} book.xls"), PASSWORD);
+        ran.failed(
+            2,
+            &[
+                "sheet: book.xls: ",
+                "libgsf-bin",
+                "gsf cat book.xls Workbook > book.bin",
+            ],
+        );
+        assert_eq!(ran.err.lines().count(), 1);
+        let mut child = bench.command(&format!("{command} -"));
+        child
+            .env("SHEET_PASSWORD", PASSWORD)
+            .stdin(bench.file("book.xls"));
+        Ran::from(child.output().unwrap()).failed(2, &["sheet: standard input: ", "gsf cat"]);
+    }
+    bench.has_only(&["book.xls"]);
+}
+
+#[test]
+fn a_file_above_a_gibibyte_is_not_read() {
+    let bench = Bench::new();
+    // A hole, which takes no room on the disk.
+    let file = File::create(bench.folder.join("huge")).unwrap();
+    file.set_len(sheet::STREAM_MAX_LEN as u64 + 1).unwrap();
+    for command in ["look", "list", "open -o plain"] {
+        let ran = bench.run_with(&format!("{command} huge"), PASSWORD);
+        ran.failed(2, &["sheet: huge: ", "1 GiB"]);
+    }
+    bench.has_only(&["huge"]);
+}
+
+#[test]
+fn outputs_that_can_t_be_written() {
+    let bench = Bench::new();
+    fs::create_dir(bench.folder.join("drawer")).unwrap();
+    symlink("nowhere", bench.folder.join("dangling")).unwrap();
+    for (out, words) in [
+        ("none/plain", "no folder none"),
+        ("none/", "no such folder"),
+        ("drawer", "folder"),
+        ("drawer/", "folder"),
+        ("calibres.password/plain", "not a folder"),
+        ("dangling", "link"),
+        ("/dev/full", "device"),
+        ("/dev/null", "device"),
+    ] {
+        let ran = bench.run_with(&format!("open calibres.bin -o {out}"), PASSWORD);
+        ran.failed(2, &[&format!("sheet: {out}: "), words]);
+        // It is said before a password is asked for.
+        let ran = bench.run(&format!("open calibres.bin -o {out}"));
+        ran.failed(2, &[&format!("sheet: {out}: "), words]);
+    }
+    bench.has_only(&["drawer", "dangling"]);
+    assert_eq!(
+        fs::read_dir(bench.folder.join("drawer")).unwrap().count(),
+        0
+    );
+}
+
+#[test]
+fn the_input_is_never_the_output() {
+    let bench = Bench::new();
+    let before = bench.read("calibres.bin");
+    fs::hard_link(bench.folder.join("calibres.bin"), bench.folder.join("hard")).unwrap();
+    symlink("calibres.bin", bench.folder.join("soft")).unwrap();
+    let same = "the very file that is read";
+    for file in ["calibres.bin", "hard", "soft", "./calibres.bin"] {
+        for out in ["calibres.bin", "hard", "soft", "./calibres.bin"] {
+            let ran = bench.run_with(&format!("open {file} -o {out}"), PASSWORD);
+            ran.failed(2, &[&format!("sheet: {out}: "), same]);
+        }
+    }
+    let mut child = bench.command("open - -o hard");
+    child
+        .env("SHEET_PASSWORD", PASSWORD)
+        .stdin(bench.file("calibres.bin"));
+    Ran::from(child.output().unwrap()).failed(2, &["sheet: hard: ", same]);
+    let appended = OpenOptions::new()
+        .append(true)
+        .open(bench.folder.join("hard"))
+        .unwrap();
+    let mut child = bench.command("open calibres.bin -o -");
+    child.env("SHEET_PASSWORD", PASSWORD).stdout(appended);
+    Ran::from(child.output().unwrap()).failed(2, &["sheet: standard output: ", same]);
+    bench.has_only(&["hard", "soft"]);
+    assert!(bench.read("calibres.bin") == before);
+}
+
+#[test]
+fn an_output_that_is_there_is_replaced_when_the_new_one_is_whole() {
+    let bench = Bench::new();
+    let old = bench.write("plain", b"old");
+    fs::set_permissions(&old, fs::Permissions::from_mode(0o640)).unwrap();
+    let before = fs::metadata(&old).unwrap().ino();
+    bench
+        .run_with("open calibres.bin -o plain", "another")
+        .failed(1, &["refused, 27"]);
+    assert_eq!(bench.read("plain"), b"old");
+    assert_eq!(
+        bench
+            .run_with("open calibres.bin -o plain", PASSWORD)
+            .status,
+        Some(0)
+    );
+    assert!(bench.read("plain") == bench.plain());
+    let after = fs::metadata(&old).unwrap();
+    assert_ne!(after.ino(), before);
+    assert_eq!(after.mode() & 0o777, 0o640);
+    // Through a link the file behind it is replaced, and the link stays.
+    bench.write("target", b"old");
+    symlink("target", bench.folder.join("link")).unwrap();
+    assert_eq!(
+        bench.run_with("open calibres.bin -o link", PASSWORD).status,
+        Some(0)
+    );
+    assert!(bench.read("target") == bench.plain());
+    assert!(fs::symlink_metadata(bench.folder.join("link"))
+        .unwrap()
+        .is_symlink());
+    bench.has_only(&["link", "plain", "target"]);
+}
+
+#[test]
+fn standard_input_and_standard_output() {
+    let bench = Bench::new();
+    for line in ["open - -o -", "open calibres.bin -o -"] {
+        let mut child = bench.command(line);
+        child
+            .env("SHEET_PASSWORD", PASSWORD)
+            .stdin(bench.file("calibres.bin"));
+        let output = child.output().unwrap();
+        assert_eq!(output.status.code(), Some(0));
+        assert!(output.stdout == bench.plain());
+        assert_eq!(String::from_utf8(output.stderr).unwrap(), REPORT);
+    }
+    let mut child = bench.command("open - -o plain");
+    child
+        .env("SHEET_PASSWORD", PASSWORD)
+        .stdin(bench.file("calibres.bin"));
+    assert_eq!(Ran::from(child.output().unwrap()).out, REPORT);
+    assert!(bench.read("plain") == bench.plain());
+    // From a pipe, whose length nobody knows beforehand.
+    let mut child = bench.command("open - -o -");
+    child.env("SHEET_PASSWORD", PASSWORD);
+    child
+        .stdin(Stdio::piped())
+        .stdout(Stdio::piped())
+        .stderr(Stdio::piped());
+    let mut child = child.spawn().unwrap();
+    child
+        .stdin
+        .take()
+        .unwrap()
+        .write_all(&bench.read("calibres.bin"))
+        .unwrap();
+    let output = child.wait_with_output().unwrap();
+    assert!(output.stdout == bench.plain());
+    bench
+        .run("open - -o plain --password-file -")
+        .failed(2, &["both", "standard input"]);
+    bench.has_only(&["plain"]);
+}
+
+#[test]
+fn a_full_disk_is_told() {
+    let bench = Bench::new();
+    let full = || OpenOptions::new().write(true).open("/dev/full").unwrap();
+    for line in [
+        "open calibres.bin -o -",
+        "look calibres.bin",
+        "list calibres.bin",
+        "refusals",
+        "--help",
+        "--version",
+    ] {
+        let mut child = bench.command(line);
+        child.env("SHEET_PASSWORD", PASSWORD).stdout(full());
+        let ran = Ran::from(child.output().unwrap());
+        ran.failed(2, &["sheet: standard output: the disk is full"]);
+    }
+    bench.has_only(&[]);
+    // The plain stream is written, and only the report is lost.
+    let mut child = bench.command("open calibres.bin -o plain");
+    child.env("SHEET_PASSWORD", PASSWORD).stdout(full());
+    Ran::from(child.output().unwrap())
+        .failed(2, &["the disk is full", "plain is written and whole"]);
+    assert!(bench.read("plain") == bench.plain());
+    bench.has_only(&["plain"]);
+}
+
+#[test]
+fn an_output_that_grows_too_large_is_not_left_half_written() {
+    let bench = Bench::new();
+    bench.write("old", b"old");
+    for out in ["new", "old"] {
+        let mut child = bench.command(&format!("open calibres.bin -o {out}"));
+        // SAFETY: setrlimit may be called between fork and exec.
+        unsafe {
+            child.pre_exec(|| {
+                setrlimit(RLIMIT_FSIZE, &[1000, 1000]);
+                Ok(())
+            })
+        };
+        let ran = Ran::from(child.env("SHEET_PASSWORD", PASSWORD).output().unwrap());
+        ran.failed(
+            2,
+            &[&format!("sheet: {out}: "), "larger than is allowed there"],
+        );
+    }
+    assert_eq!(bench.read("old"), b"old");
+    bench.has_only(&["old"]);
+}
+
+#[test]
+fn no_permission_is_told() {
+    let bench = Bench::new();
+    // Root may do everything, so the command runs as nobody then, from a copy that nobody may run.
+    let program = bench.folder.join("sheet");
+    fs::copy(SHEET, &program).unwrap();
+    fs::create_dir(bench.folder.join("locked")).unwrap();
+    bench.write("secret", b"");
+    bench.write("kept", b"old");
+    for (name, mode) in [
+        ("secret", 0o000),
+        ("kept", 0o444),
+        ("locked", 0o555),
+        ("sheet", 0o755),
+        ("calibres.bin", 0o644),
+    ] {
+        fs::set_permissions(bench.folder.join(name), fs::Permissions::from_mode(mode)).unwrap();
+    }
+    for (line, words) in [
+        ("look secret", &["sheet: secret: ", "no permission to read"]),
+        (
+            "open calibres.bin -o kept",
+            &["sheet: kept: ", "no permission to write"],
+        ),
+        (
+            "open calibres.bin -o locked/plain",
+            &["sheet: locked/plain: ", "no permission to write"],
+        ),
+    ] {
+        let mut command = Command::new(&program);
+        command
+            .args(line.split_whitespace())
+            .current_dir(bench.folder.path());
+        command.env("SHEET_PASSWORD", PASSWORD).stdin(Stdio::null());
+        // SAFETY: geteuid only tells a number.
+        if unsafe { geteuid() } == 0 {
+            command.uid(65534).gid(65534);
+        }
+        match command.output() {
+            Ok(output) => Ran::from(output).failed(2, words),
+            // Nobody may not enter the folders above, or can't be had at all.
+            Err(error) => println!("not tried: {error}"),
+        }
+    }
+    assert_eq!(bench.read("kept"), b"old");
+    assert_eq!(
+        fs::read_dir(bench.folder.join("locked")).unwrap().count(),
+        0
+    );
+    bench.has_only(&["kept", "locked", "secret", "sheet"]);
+}
+
+#[test]
+fn a_reader_that_has_enough_is_no_error_worth_words() {
+    let bench = Bench::new();
+    let mut child = bench.command("list calibres.bin");
+    let mut child = child
+        .stdout(Stdio::piped())
+        .stderr(Stdio::piped())
+        .spawn()
+        .unwrap();
+    drop(child.stdout.take());
+    let ran = Ran::from(child.wait_with_output().unwrap());
+    // The listing may be out before the pipe is closed.
+    assert!(matches!(ran.status, Some(0 | 2)), "{ran:?}");
+    assert_eq!(ran.err, "");
+}
+
+#[test]
+fn mistakes_in_the_arguments() {
+    let bench = Bench::new();
+    let password = "not taken as an argument";
+    for (line, words) in [
+        ("", "look, list, open or refusals"),
+        ("opne calibres.bin", "'opne'"),
+        ("open calibres.bin", "-o"),
+        ("open -o plain", "name of a file"),
+        ("open calibres.bin -o plain --password Geheim", password),
+        ("open calibres.bin -o plain --password=Geheim", password),
+        ("open calibres.bin -o plain -pGeheim", password),
+        ("open calibres.bin Geheim -o plain", password),
+        ("look calibres.bin other", "'other'"),
+    ] {
+        let ran = bench.run(line);
+        ran.failed(2, &["sheet: ", words, "sheet --help"]);
+        assert!(!ran.err.contains("Geheim"));
+    }
+    bench.has_only(&[]);
+}
+
+#[test]
+fn help_and_version() {
+    let bench = Bench::new();
+    for line in ["--help", "-h", "help", "open --help"] {
+        let ran = bench.run(line);
+        assert_eq!((ran.status, &ran.err[..]), (Some(0), ""));
+        for words in [
+            "sheet look FILE",
+            "sheet list FILE",
+            "sheet open FILE -o OUT",
+            "sheet refusals",
+            "--password-file",
+            "SHEET_PASSWORD",
+            "process list",
+            "history",
+            "environment's own copy",
+            "gsf cat book.xls Workbook > book.bin",
+            "EXIT STATUS",
+        ] {
+            assert!(ran.out.contains(words), "{words}");
+        }
+        assert!(ran.out.lines().all(|line| line.chars().count() < 80));
+    }
+    let version = format!("sheet {}\n", env!("CARGO_PKG_VERSION"));
+    assert_eq!(bench.run("--version").out, version);
+}

@@ -1,0 +1,252 @@
+//! Locked workbook streams made from plain records, by document 01.
+
+use super::digest::{md5, sha1};
+use super::rc4::Rc4;
+use super::{utf16, xor};
+
+pub const BOF: u16 = 0x0809;
+pub const FILEPASS: u16 = 0x002F;
+pub const BOUND_SHEET: u16 = 0x0085;
+pub const EOF: u16 = 0x000A;
+const SEVEN: [u16; 7] = [BOF, FILEPASS, 0x00E1, 0x0138, 0x0194, 0x0195, 0x0196];
+
+pub const SALT: [u8; 16] = *b"0123456789:;<=>?";
+const VERIFIER: [u8; 16] = *b"\xC0\xC1\xC2\xC3\xC4\xC5\xC6\xC7\xC8\xC9\xCA\xCB\xCC\xCD\xCE\xCF";
+
+/// The length of a keystream's block.
+pub const BLOCK: usize = 1024;
+
+#[derive(Clone, Copy, Debug, PartialEq)]
+pub enum Kind {
+    Xor,
+    Office97,
+    /// With a key size in bits, and whether the summary is sealed.
+    CryptoApi(u32, bool),
+}
+
+/// One of each lock.
+pub const KINDS: [Kind; 4] = [
+    Kind::Xor,
+    Kind::Office97,
+    Kind::CryptoApi(128, true),
+    Kind::CryptoApi(40, false),
+];
+
+impl Kind {
+    /// A password that the lock takes: long and odd, as far as it admits.
+    pub fn password(self) -> &'static str {
+        match self {
+            Kind::Xor => "Unruh & 28800/h",
+            _ => "Ankerhemmung, 28 800 Halbschwingungen; Spirale № 7 — «Glashütte» 🕰",
+        }
+    }
+
+    pub fn report(self, records: usize) -> sheet::Report {
+        let (lock, key_bits, summary_sealed) = match self {
+            Kind::Xor => (sheet::Lock::Xor, 0, false),
+            Kind::Office97 => (sheet::Lock::Office97, 40, false),
+            Kind::CryptoApi(bits, sealed) => (sheet::Lock::CryptoApi, bits, sealed),
+        };
+        sheet::Report {
+            records,
+            lock,
+            key_bits,
+            summary_sealed,
+        }
+    }
+
+    /// The password's digest: H0 of both RC4 locks.
+    pub fn digest(self, password: &str) -> Vec<u8> {
+        let text = utf16(password);
+        match self {
+            Kind::Xor => Vec::new(),
+            Kind::Office97 => {
+                let first = &md5(&text)[..5];
+                md5(&[first, &SALT].concat().repeat(16))[..5].to_vec()
+            }
+            Kind::CryptoApi(..) => sha1(&[&SALT[..], &text].concat()).to_vec(),
+        }
+    }
+
+    /// The key of a block, of both RC4 locks.
+    pub fn block_key(self, password: &str, block: u32) -> Vec<u8> {
+        let message = [self.digest(password), block.to_le_bytes().to_vec()].concat();
+        match self {
+            Kind::Xor => Vec::new(),
+            Kind::Office97 => md5(&message).to_vec(),
+            Kind::CryptoApi(bits, _) => {
+                let mut key = sha1(&message)[..bits as usize / 8].to_vec();
+                if bits == 40 {
+                    key.resize(16, 0);
+                }
+                key
+            }
+        }
+    }
+
+    /// The body of FILEPASS.
+    pub fn filepass(self, password: &str) -> Vec<u8> {
+        let bits = match self {
+            Kind::Xor => {
+                let bytes = password.as_bytes();
+                return [0, xor::key(bytes), xor::verifier(bytes)]
+                    .map(u16::to_le_bytes)
+                    .concat();
+            }
+            Kind::Office97 => 40,
+            Kind::CryptoApi(bits, _) => bits,
+        };
+        let hash = match self {
+            Kind::Office97 => md5(&VERIFIER).to_vec(),
+            _ => sha1(&VERIFIER).to_vec(),
+        };
+        let check = Rc4::new(&self.block_key(password, 0)).apply(&[&VERIFIER[..], &hash].concat());
+        if self == Kind::Office97 {
+            let head = [1_u16, 1, 1].map(u16::to_le_bytes).concat();
+            return [&head, &SALT[..], &check].concat();
+        }
+        let flags: u32 = if self == Kind::CryptoApi(bits, true) {
+            0x04
+        } else {
+            0x0C
+        };
+        let name = utf16("Provider");
+        let head = [1_u16, 4, 2].map(u16::to_le_bytes).concat();
+        let size = 32 + name.len() as u32;
+        let fields = [flags, size, flags, 0, 0x6801, 0x8004, bits, 1, 0, 0];
+        let salt_size = 16_u32.to_le_bytes();
+        let hash_size = 20_u32.to_le_bytes();
+        [
+            &head,
+            &fields.map(u32::to_le_bytes).concat(),
+            &name,
+            &salt_size[..],
+            &SALT,
+            &check[..16],
+            &hash_size,
+            &check[16..],
+        ]
+        .concat()
+    }
+}
+
+/// A locked stream with its plain one and the offsets of its headers.
+pub struct Book {
+    pub kind: Kind,
+    pub password: &'static str,
+    pub locked: Vec<u8>,
+    pub plain: Vec<u8>,
+    pub headers: Vec<usize>,
+}
+
+impl Book {
+    /// Locks records, of which the first FILEPASS gets its body here.
+    pub fn new(kind: Kind, password: &'static str, records: &[(u16, Vec<u8>)]) -> Book {
+        let mut records = records.to_vec();
+        let first = records
+            .iter()
+            .position(|(id, _)| *id == FILEPASS)
+            .expect("a FILEPASS record");
+        records[first].1 = kind.filepass(password);
+        let (mut joined, mut plain, mut headers) = (Vec::new(), Vec::new(), Vec::new());
+        for (k, (id, body)) in records.iter().enumerate() {
+            headers.push(joined.len());
+            joined.extend(header(*id, body.len()));
+            joined.extend(body);
+            plain.extend(header(if k == first { 0 } else { *id }, body.len()));
+            plain.extend(if k == first {
+                vec![0; body.len()]
+            } else {
+                body.clone()
+            });
+        }
+        let mut locked = joined.clone();
+        let streamed: Vec<u8> = match kind {
+            Kind::Xor => Vec::new(),
+            _ => joined
+                .chunks(BLOCK)
+                .zip(0..)
+                .flat_map(|(part, block)| Rc4::new(&kind.block_key(password, block)).apply(part))
+                .collect(),
+        };
+        for ((id, body), at) in records.iter().zip(&headers) {
+            let (start, end) = (at + 4, at + 4 + body.len());
+            let clear = clear_len(*id, body.len());
+            if kind == Kind::Xor {
+                let sealed = xor::seal(body, clear, end, password.as_bytes());
+                locked[start..end].copy_from_slice(&sealed);
+            } else {
+                locked[start + clear..end].copy_from_slice(&streamed[start + clear..end]);
+            }
+        }
+        Book {
+            kind,
+            password,
+            locked,
+            plain,
+            headers,
+        }
+    }
+
+    /// A book of some hundred bytes, with every kind of record that is treated apart.
+    pub fn small(kind: Kind) -> Book {
+        Book::of(kind, 8, 20)
+    }
+
+    /// A book of several blocks.
+    pub fn long(kind: Kind) -> Book {
+        Book::of(kind, 40, 200)
+    }
+
+    fn of(kind: Kind, rows: usize, longest: usize) -> Book {
+        let mut records = vec![
+            (BOF, vec![0, 6, 5, 0]),
+            (0x00E1, vec![0xB0, 0x04]),
+            (FILEPASS, Vec::new()),
+            (BOUND_SHEET, b"\0\0\0\0\0\0\x05\0Werke".to_vec()),
+            (BOUND_SHEET, b"\0\0".to_vec()),
+            (EOF, Vec::new()),
+            (BOF, vec![0, 6, 16, 0]),
+            // A later FILEPASS is copied whole.
+            (FILEPASS, vec![7; 9]),
+        ];
+        for row in 0..rows {
+            let body = (0..row * 31 % longest).map(|k| (row * 7 + k * 3) as u8);
+            records.push((0x0204, body.collect()));
+        }
+        records.push((EOF, Vec::new()));
+        Book::new(kind, kind.password(), &records)
+    }
+
+    /// The first FILEPASS: the offsets of its header and of its body's end.
+    pub fn filepass(&self) -> (usize, usize) {
+        (self.headers[2], self.headers[3])
+    }
+
+    /// The offset of the record that a cut at `len` leaves cut off, if it does not stand between
+    /// two records.
+    pub fn cut_record(&self, len: usize) -> Option<usize> {
+        let last = self.headers.iter().rev().find(|at| **at < len)?;
+        let whole = self.headers.iter().find(|at| **at > *last);
+        (len != *whole.unwrap_or(&self.locked.len())).then_some(*last)
+    }
+
+    /// How many records there are in the first `len` bytes.
+    pub fn records_in(&self, len: usize) -> usize {
+        self.headers.iter().filter(|at| **at < len).count()
+    }
+}
+
+pub fn header(id: u16, len: usize) -> Vec<u8> {
+    [id, u16::try_from(len).unwrap()]
+        .map(u16::to_le_bytes)
+        .concat()
+}
+
+pub fn clear_len(id: u16, len: usize) -> usize {
+    match id {
+        _ if SEVEN.contains(&id) => len,
+        BOUND_SHEET => len.min(4),
+        _ => 0,
+    }
+}

@@ -1,0 +1,154 @@
+//! The command's memory while it writes: nothing of the password is left in it.
+//!
+//! The plain stream goes to a pipe that nobody empties, so the command stands still after it has
+//! opened the stream, and its memory can be read.
+
+mod common;
+
+use std::collections::HashSet;
+use std::fs::{self, File};
+use std::io::Read;
+use std::os::unix::fs::FileExt;
+use std::process::{Child, Command, Stdio};
+
+use common::book::{Book, Kind, BOF, FILEPASS, KINDS};
+use common::folder::Folder;
+use common::pty::Terminal;
+use common::{utf16, xor};
+
+/// A run of this many bytes of a secret counts as found.
+const RUN: usize = 8;
+
+/// A book that is longer than a pipe holds. Its bodies have no pattern: under XOR a body of zeros
+/// would show the array.
+fn book(kind: Kind) -> Book {
+    let mut state: u32 = 7;
+    let mut byte = || {
+        state = state.wrapping_mul(1_664_525).wrapping_add(1_013_904_223);
+        (state >> 24) as u8
+    };
+    let mut records = vec![(BOF, vec![]), (FILEPASS, vec![])];
+    for _ in 0..100 {
+        records.push((0x0204, (0..4000).map(|_| byte()).collect()));
+    }
+    Book::new(kind, kind.password(), &records)
+}
+
+/// Every run of the secrets.
+fn runs(book: &Book) -> HashSet<[u8; RUN]> {
+    let mut secrets = vec![book.password.as_bytes().to_vec(), utf16(book.password)];
+    match book.kind {
+        Kind::Xor => secrets.push(xor::array(book.password.as_bytes()).to_vec()),
+        kind => {
+            secrets.push(kind.digest(book.password));
+            // Of 40 bits, which the key is made of, a run would be zeros for the greater part.
+            if kind != Kind::CryptoApi(40, false) {
+                secrets.push(kind.block_key(book.password, 0));
+            }
+        }
+    }
+    secrets
+        .iter()
+        .flat_map(|secret| secret.windows(RUN))
+        .map(|run| run.try_into().unwrap())
+        .collect()
+}
+
+/// The parts of a process's memory that it may write to and where a run stands.
+fn found(process: &Child, runs: &HashSet<[u8; RUN]>) -> Vec<String> {
+    let id = process.id();
+    let memory = File::open(format!("/proc/{id}/mem")).unwrap();
+    let starts: HashSet<u8> = runs.iter().map(|run| run[0]).collect();
+    let maps = fs::read_to_string(format!("/proc/{id}/maps")).unwrap();
+    let mut parts = Vec::new();
+    for line in maps.lines() {
+        let mut columns = line.split_whitespace();
+        let (range, rights) = (columns.next().unwrap(), columns.next().unwrap());
+        if !rights.starts_with("rw") {
+            continue;
+        }
+        let (start, end) = range.split_once('-').unwrap();
+        let [start, end] = [start, end].map(|hex| u64::from_str_radix(hex, 16).unwrap());
+        let mut bytes = vec![0; (end - start) as usize];
+        if memory.read_exact_at(&mut bytes, start).is_err() {
+            continue;
+        }
+        let there = bytes
+            .windows(RUN)
+            .any(|run| starts.contains(&run[0]) && runs.contains(run));
+        if there {
+            parts.push(line.to_string());
+        }
+    }
+    parts
+}
+
+/// The command, opening a book to a pipe.
+fn command(folder: &Folder, book: &Book) -> Command {
+    folder.write("book", &book.locked);
+    folder.write("password", book.password.as_bytes());
+    let mut command = Command::new(env!("CARGO_BIN_EXE_sheet"));
+    command
+        .args(["open", "book", "-o", "-"])
+        .current_dir(folder.path())
+        .env_remove("SHEET_PASSWORD")
+        .stdin(Stdio::null())
+        .stdout(Stdio::piped())
+        .stderr(Stdio::null());
+    command
+}
+
+/// Looks for runs once the plain stream has begun to come, and sees that it comes whole.
+fn look_while_it_writes(mut child: Child, book: &Book) -> Vec<String> {
+    let mut pipe = child.stdout.take().unwrap();
+    let mut plain = vec![0; 1];
+    pipe.read_exact(&mut plain).unwrap();
+    let parts = found(&child, &runs(book));
+    pipe.read_to_end(&mut plain).unwrap();
+    assert!(child.wait().unwrap().success());
+    assert!(plain == book.plain);
+    parts
+}
+
+#[test]
+fn a_password_from_a_file_is_wiped() {
+    for kind in KINDS {
+        let (folder, book) = (Folder::new(), book(kind));
+        let mut command = command(&folder, &book);
+        let child = command
+            .args(["--password-file", "password"])
+            .spawn()
+            .unwrap();
+        assert_eq!(look_while_it_writes(child, &book), [""; 0], "{kind:?}");
+    }
+}
+
+#[test]
+fn a_password_from_the_terminal_is_wiped() {
+    for kind in [Kind::Xor, Kind::CryptoApi(128, true)] {
+        let (folder, book) = (Folder::new(), book(kind));
+        let mut terminal = Terminal::open();
+        let mut command = command(&folder, &book);
+        terminal.attach(&mut command);
+        let child = command.spawn().unwrap();
+        terminal.wait_for("Password for book: ");
+        terminal.write(format!("{}\n", book.password).as_bytes());
+        assert_eq!(look_while_it_writes(child, &book), [""; 0], "{kind:?}");
+    }
+}
+
+#[test]
+fn a_password_from_the_environment_stays_there_and_nowhere_else() {
+    for kind in [Kind::Xor, Kind::CryptoApi(128, true)] {
+        let (folder, book) = (Folder::new(), book(kind));
+        let mut command = command(&folder, &book);
+        let child = command
+            .env("SHEET_PASSWORD", book.password)
+            .spawn()
+            .unwrap();
+        // This shows too that the search finds what is there.
+        let parts = look_while_it_writes(child, &book);
+        assert_eq!(parts.len(), 1, "{parts:?}");
+        assert!(parts[0].ends_with("[stack]"), "{parts:?}");
+    }
+}

@@ -1,0 +1,299 @@
+//! What a call to open leaves on the stack and in vector registers: nothing of the password, nor of
+//! what is made from it.
+//!
+//! A trial paints the stack below it, opens a book, and reads the same stack again, with machine
+//! instructions: what stands below the stack pointer is nobody's, and only the machine can speak of
+//! it.
+
+mod common;
+
+use std::arch::asm;
+use std::thread;
+
+use common::book::{Book, Kind, BLOCK, KINDS};
+use common::rc4::Rc4;
+use common::{digest, utf16, xor};
+
+/// How much of the stack is painted and read, in bytes, and with what.
+const REGION: usize = 128 * 1024;
+const PAINT: u8 = 0xA5;
+
+/// A run of this many bytes of a secret counts as found.
+const RUN: usize = 8;
+
+/// Paints the stack below the stack pointer of the function that this stands in.
+macro_rules! paint {
+    () => {
+        // SAFETY: the thread's stack has room for the region, no function that runs has its frame
+        // there, and without the option `nostack` the compiler keeps nothing there either.
+        unsafe {
+            asm!(
+                "lea rdi, [rsp - {region}]",
+                "rep stosb",
+                region = const REGION,
+                inout("rcx") REGION => _,
+                out("rdi") _,
+                in("al") PAINT,
+            )
+        }
+    };
+}
+
+/// Copies what stands below the stack pointer of the function that this stands in.
+macro_rules! copy {
+    ($to:expr) => {
+        // SAFETY: as for painting, and the copy has room for the region.
+        unsafe {
+            assert!($to.len() == REGION);
+            asm!(
+                "lea rsi, [rsp - {region}]",
+                "rep movsb",
+                region = const REGION,
+                inout("rcx") REGION => _,
+                inout("rdi") $to.as_mut_ptr() => _,
+                out("rsi") _,
+            )
+        }
+    };
+}
+
+/// The bytes of all vector registers, where there are 32 of 64 bytes.
+const VECTORS: usize = 32 * 64;
+
+/// Copies the vector registers, as many and as wide as the machine has them.
+macro_rules! copy_vectors {
+    ($to:expr) => {
+        // SAFETY: the instructions are those of the features that were detected, and the copy has
+        // room for all registers.
+        unsafe {
+            assert!($to.len() == VECTORS);
+            let to = $to.as_mut_ptr();
+            if is_x86_feature_detected!("avx512f") {
+                asm!(
+                    ".irp n, 0, 1, 2, 3, 4, 5, 6, 7, 8, 9, 10, 11, 12, 13, 14, 15",
+                    "vmovdqu64 [{to} + 64 * \\n], zmm\\n",
+                    ".endr",
+                    ".irp n, 16, 17, 18, 19, 20, 21, 22, 23, 24, 25, 26, 27, 28, 29, 30, 31",
+                    "vmovdqu64 [{to} + 64 * \\n], zmm\\n",
+                    ".endr",
+                    to = in(reg) to,
+                )
+            } else if is_x86_feature_detected!("avx") {
+                asm!(
+                    ".irp n, 0, 1, 2, 3, 4, 5, 6, 7, 8, 9, 10, 11, 12, 13, 14, 15",
+                    "vmovdqu [{to} + 64 * \\n], ymm\\n",
+                    ".endr",
+                    to = in(reg) to,
+                )
+            } else {
+                asm!(
+                    ".irp n, 0, 1, 2, 3, 4, 5, 6, 7, 8, 9, 10, 11, 12, 13, 14, 15",
+                    "movdqu [{to} + 64 * \\n], xmm\\n",
+                    ".endr",
+                    to = in(reg) to,
+                )
+            }
+        }
+    };
+}
+
+extern "C" {
+    fn sheet_open(
+        stream: *const u8,
+        stream_len: usize,
+        password: *const u8,
+        password_len: usize,
+        scratch: *mut u8,
+        scratch_len: usize,
+        output: *mut u8,
+        output_len: usize,
+        facts: *mut [u64; 8],
+    ) -> u32;
+}
+
+/// The call without the wrapper: nothing is scrubbed.
+#[inline(never)]
+fn bare_open(stream: &[u8], password: &[u8], scratch: &mut [u8], output: &mut [u8]) -> u32 {
+    let mut facts = [0; 8];
+    // SAFETY: as the wrapper has it.
+    unsafe {
+        sheet_open(
+            stream.as_ptr(),
+            stream.len(),
+            password.as_ptr(),
+            password.len(),
+            scratch.as_mut_ptr(),
+            scratch.len(),
+            output.as_mut_ptr(),
+            output.len(),
+            &mut facts,
+        )
+    }
+}
+
+fn wrapped_open(stream: &[u8], password: &[u8], scratch: &mut [u8], output: &mut [u8]) -> u32 {
+    match sheet::open(stream, password, scratch, output) {
+        Ok(_) => 0,
+        Err(refusal) => refusal.number(),
+    }
+}
+
+type Open = fn(&[u8], &[u8], &mut [u8], &mut [u8]) -> u32;
+
+/// Opens, and gives the answer and what stands afterwards on the stack, whose last byte is the one
+/// nearest to the caller's frame, and in the vector registers.
+#[inline(never)]
+fn trial(open: Open, stream: &[u8], password: &[u8]) -> (u32, Vec<u8>, Vec<u8>) {
+    let mut scratch = vec![0; sheet::SCRATCH_LEN];
+    let mut output = vec![0; stream.len()];
+    let mut region = vec![0; REGION];
+    let mut vectors = vec![0; VECTORS];
+    paint!();
+    let number = open(stream, password, &mut scratch, &mut output);
+    copy_vectors!(vectors);
+    copy!(region);
+    (number, region, vectors)
+}
+
+/// A trial on a thread of its own, whose stack has room for it.
+fn left_behind(open: Open, stream: &[u8], password: &str) -> (u32, Vec<u8>, Vec<u8>) {
+    thread::scope(|scope| {
+        thread::Builder::new()
+            .stack_size(4 * REGION)
+            .spawn_scoped(scope, || trial(open, stream, password.as_bytes()))
+            .unwrap()
+            .join()
+            .unwrap()
+    })
+}
+
+/// What must not be left behind: a name and the bytes.
+type Secrets = Vec<(String, Vec<u8>)>;
+
+/// Bytes as they are, and as the words that SHA-1 computes with, the lower byte first.
+fn both_forms(name: &str, bytes: &[u8], secrets: &mut Secrets) {
+    let words = bytes
+        .chunks(4)
+        .flat_map(|word| word.iter().rev().copied())
+        .collect();
+    secrets.push((name.to_string(), bytes.to_vec()));
+    secrets.push((format!("{name}, in words"), words));
+}
+
+/// All that a book's password is made into.
+fn secrets(book: &Book) -> Secrets {
+    let mut secrets = Vec::new();
+    both_forms("password, UTF-8", book.password.as_bytes(), &mut secrets);
+    both_forms("password, UTF-16LE", &utf16(book.password), &mut secrets);
+    if book.kind == Kind::Xor {
+        let array = xor::array(book.password.as_bytes());
+        // The array goes round.
+        secrets.push(("XOR array".to_string(), array.repeat(2)));
+        return secrets;
+    }
+    if book.kind == Kind::Office97 {
+        let first = digest::md5(&utf16(book.password));
+        secrets.push(("MD5 of the password".to_string(), first.to_vec()));
+    }
+    both_forms("H0", &book.kind.digest(book.password), &mut secrets);
+    for (part, block) in book.locked.chunks(BLOCK).zip(0..) {
+        let key = book.kind.block_key(book.password, block);
+        let mut rc4 = Rc4::new(&key);
+        both_forms(&format!("key of block {block}"), &key, &mut secrets);
+        secrets.push((format!("table of block {block}"), rc4.table.to_vec()));
+        for used in 1..=part.len() {
+            rc4.byte();
+            // After the check of the password, and at the end of the block.
+            if [32, 36, part.len()].contains(&used) {
+                let name = format!("table of block {block} after {used} bytes");
+                secrets.push((name, rc4.table.to_vec()));
+            }
+        }
+    }
+    secrets
+}
+
+/// The names of the secrets of which a run of bytes stands in the region. Runs of one byte value
+/// over and over are passed by: keys of 40 bits end in zeros.
+fn found(secrets: &Secrets, region: &[u8]) -> Vec<String> {
+    let runs: std::collections::HashSet<&[u8]> = region.windows(RUN).collect();
+    let shorter = |secret: &[u8]| region.windows(secret.len()).any(|window| window == secret);
+    let telling = |run: &&[u8]| run.iter().any(|byte| *byte != run[0]);
+    secrets
+        .iter()
+        .filter(|(_, secret)| match secret.len() {
+            0..RUN => shorter(secret),
+            _ => secret
+                .windows(RUN)
+                .filter(telling)
+                .any(|run| runs.contains(run)),
+        })
+        .map(|(name, _)| name.clone())
+        .collect()
+}
+
+/// How deep the stack was written to.
+fn depth(region: &[u8]) -> usize {
+    let untouched = region.iter().take_while(|byte| **byte == PAINT).count();
+    region.len() - untouched
+}
+
+#[test]
+fn nothing_of_the_password_is_left_behind() {
+    for kind in KINDS {
+        for book in [Book::small(kind), Book::long(kind)] {
+            let secrets = secrets(&book);
+            let (number, region, vectors) = left_behind(wrapped_open, &book.locked, book.password);
+            assert_eq!(number, 0);
+            assert_eq!(found(&secrets, &region), [""; 0], "{kind:?}");
+            assert_eq!(found(&secrets, &vectors), [""; 0], "{kind:?}");
+        }
+    }
+}
+
+#[test]
+fn nothing_of_a_password_that_does_not_pass_is_left_behind_either() {
+    for kind in KINDS {
+        // The right one for a book like it, so that its secrets are known.
+        let book = Book::long(kind);
+        let secrets = secrets(&book);
+        let mut stream = book.locked.clone();
+        let (_, lock_end) = book.filepass();
+        stream[lock_end - 1] ^= 1;
+        let (number, region, vectors) = left_behind(wrapped_open, &stream, book.password);
+        assert_eq!(number, 27);
+        assert_eq!(found(&secrets, &region), [""; 0], "{kind:?}");
+        assert_eq!(found(&secrets, &vectors), [""; 0], "{kind:?}");
+    }
+}
+
+#[test]
+fn the_same_search_finds_secrets_where_nothing_is_scrubbed() {
+    for kind in KINDS {
+        for book in [Book::small(kind), Book::long(kind)] {
+            let (number, region, vectors) = left_behind(bare_open, &book.locked, book.password);
+            assert_eq!(number, 0);
+            let names = found(&secrets(&book), &region);
+            println!("{kind:?}, {} bytes: {names:?}", book.locked.len());
+            // Which registers memcpy uses depends on the machine, so nothing is expected of them.
+            println!("in registers: {:?}", found(&secrets(&book), &vectors));
+            let sort = |word: &str| names.iter().any(|name| name.starts_with(word));
+            match kind {
+                Kind::Xor => assert!(sort("password") && sort("XOR array")),
+                _ => assert!(sort("H0") && sort("key") && sort("table")),
+            }
+        }
+    }
+}
+
+#[test]
+fn a_call_uses_far_less_of_the_stack_than_is_scrubbed() {
+    for kind in KINDS {
+        let book = Book::long(kind);
+        let (_, bare, _) = left_behind(bare_open, &book.locked, book.password);
+        let (_, wrapped, _) = left_behind(wrapped_open, &book.locked, book.password);
+        println!("{kind:?}: {} of {}", depth(&bare), depth(&wrapped));
+        assert!(depth(&bare) < 8 * 1024);
+        assert!(depth(&wrapped) >= 16 * 1024);
+    }
+}
