@@ -88,8 +88,20 @@ uint32_t sheet_record(const uint8_t *stream, size_t stream_len, size_t at, uint6
  *  27  the password does not pass
  *
  * The lowest number that applies is given, in this order. On 1 to 5 the scratch is as it was; otherwise its first
- * 2,064 bytes are zero afterwards, on success too, and the rest is as it was. What the password was hashed to stands
- * nowhere else but in the call's own stack frames, which the caller may overwrite after the call. */
+ * 2,064 bytes are zero afterwards, on success too, and the rest is as it was.
+ *
+ * What the password was made into (digests, keys, RC4 tables; under XOR its own bytes too) also stands in the call's
+ * stack frames and in registers, of which no proof can speak once the call has returned. A host that minds should
+ *
+ *   - call sheet_open from a function that is not inlined, and then, from the same caller, a second one that is not
+ *     inlined and overwrites a local array of 16 KiB through a pointer to volatile. A call was measured to go 3,360
+ *     bytes deep, and 5,600 where the dynamic linker binds memcpy or memset during it;
+ *   - link with -z now, or clear the vector registers after the call (vzeroall, and zmm16 to zmm31 where there are
+ *     any): memcpy leaves parts of the tables there, and a function bound at its first call, or a signal handled on
+ *     the same stack, saves them to the stack;
+ *   - wipe its own copy of the password.
+ *
+ * host/examples/embed.c does this. */
 uint32_t sheet_open(const uint8_t *stream, size_t stream_len, const uint8_t *password, size_t password_len, uint8_t *scratch,
                     size_t scratch_len, uint8_t *output, size_t output_len, uint64_t facts[8]);
 
