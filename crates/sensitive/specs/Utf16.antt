@@ -9,7 +9,7 @@ use Rattle.laws.specs.Choice.{pick}
 use Rattle.sensitive.specs.Utf8.{points}
 use Rattle.sensitive.specs.declared.Units.{Units}
 use Rattle.sensitive.specs.declared.Length.{Length}
-use Rattle.sensitive.specs.declared.Length.the-variants as length
+use Rattle.sensitive.specs.declared.Length.the-variants as lengths
 use Rattle.sensitive.specs.declared.Encoded.{Encoded}
 use Rattle.sensitive.specs.declared.Encoded.the-variants as encoding
 
@@ -38,8 +38,8 @@ units p = record { bytes = utf16le p ++ replicate (4 - length (utf16le p)) 0; le
 
 -- the length of a text's encoding
 abbrev pub lengthOf : Option (List ℕ) → Length
-lengthOf none = length.Malformed
-lengthOf (some bs) = length.Bytes (length bs)
+lengthOf none = lengths.Malformed
+lengthOf (some bs) = lengths.Bytes (length bs)
 
 -- the answer and the buffer at the end, for an encoding that is written to the start of a buffer that has room for it
 pub record Outcome : Type 0 where

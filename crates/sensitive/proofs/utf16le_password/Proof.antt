@@ -11,7 +11,7 @@ use lib.Seq.{length-take-le}
 use borrow.Author.Tests.{le-leb, lt-leb}
 use Rattle.laws.proofs.Choice.{taken, left}
 use Rattle.sensitive.specs.Utf16.{encoded, lengthOf, into}
-use Rattle.sensitive.specs.declared.Length.the-variants as length
+use Rattle.sensitive.specs.declared.Length.the-variants as lengths
 use Rattle.sensitive.specs.declared.Encoded.the-variants as encoding
 use Rattle.sensitive.proofs.Texts.{no-length, all-bytes}
 use Rattle.sensitive.proofs.utf16le_password.Statement.{statement}
@@ -19,11 +19,11 @@ use Rattle.sensitive.proofs.utf16le_password.Tie as tie
 
 -- the three outcomes
 module _ (o : Option (List ℕ)) (out : List ℕ) where
-  bad : lengthOf o ≡ length.Malformed → into o out ≡ record { answer = encoding.Malformed; out = out }
+  bad : lengthOf o ≡ lengths.Malformed → into o out ≡ record { answer = encoding.Malformed; out = out }
   unfolding into
   bad = go o
     where
-      go : (o : Option (List ℕ)) → lengthOf o ≡ length.Malformed → into o out ≡ record { answer = encoding.Malformed; out = out }
+      go : (o : Option (List ℕ)) → lengthOf o ≡ lengths.Malformed → into o out ≡ record { answer = encoding.Malformed; out = out }
       go none e = refl
       go (some bs) e = absurd (no-length (length bs) (sym e))
 
@@ -36,7 +36,7 @@ module _ (o : Option (List ℕ)) (out : List ℕ) where
     unfolding into
     whole h = rw e (taken _ _ (le-leb (length bs) (length out) h))
 
-sized : (o : Option (List ℕ)) (n : ℕ) → lengthOf o ≡ length.Bytes n → (bs : List ℕ) × (o ≡ some bs) × (length bs ≡ n)
+sized : (o : Option (List ℕ)) (n : ℕ) → lengthOf o ≡ lengths.Bytes n → (bs : List ℕ) × (o ≡ some bs) × (length bs ≡ n)
 sized none n e = absurd (no-length n e)
 sized (some bs) n e = (bs, refl, all-bytes (length bs) n e)
 
