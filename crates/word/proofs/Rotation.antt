@@ -33,15 +33,30 @@ rotr-sum j n x h =
     let s : j + n ≡ n + j = omega arith in
     rw (e, or-comm (x / 2 ^ n), s, kept x n j) (or-shifted (x % 2 ^ n) j (x / 2 ^ n) (shr-lt j n h))
 
--- rotating right undoes rotating left
+-- a word whose two parts changed places is a word, and its parts change places again to give the first one
+abbrev swapped : ℕ → ℕ → ℕ → ℕ
+swapped j n x = (x % 2 ^ j) * 2 ^ n + x / 2 ^ j
+
+module _ (j n x : ℕ) (h : x < 2 ^ (j + n)) where
+  high-part : x / 2 ^ j < 2 ^ n
+  high-part = let s : j + n ≡ n + j = omega arith in shr-lt n j (rw (← s) h)
+
+  swapped-fits : swapped j n x < 2 ^ (j + n)
+  swapped-fits = rw pow-add (digits-lt (mod-lt x (pow-pos j)) high-part)
+
+  swapped-twice : swapped n j (swapped j n x) ≡ x
+  swapped-twice = rw (low (x % 2 ^ j) n high-part, high (x % 2 ^ j) n high-part) (split x j)
+
+-- rotating right undoes rotating left, and rotating left undoes rotating right
 pub rotr-rotl : (j n x : ℕ) → x < 2 ^ (j + n) → rotr (j + n) n (rotl (j + n) n x) ≡ x
-rotr-rotl j n x h =
+rotr-rotl j n x h = rw (rotl-sum j n x h, rotr-sum j n (swapped j n x) (swapped-fits j n x h)) (swapped-twice j n x h)
+
+pub rotl-rotr : (j n x : ℕ) → x < 2 ^ (j + n) → rotl (j + n) n (rotr (j + n) n x) ≡ x
+rotl-rotr j n x h =
     let s : j + n ≡ n + j = omega arith in
     let b : x < 2 ^ (n + j) = rw (← s) h in
-    let q : x / 2 ^ j < 2 ^ n = shr-lt n j b in
-    let y = (x % 2 ^ j) * 2 ^ n + x / 2 ^ j in
-    let fits : y < 2 ^ (j + n) = rw pow-add (digits-lt (mod-lt x (pow-pos j)) q) in
-    rw (rotl-sum j n x h, rotr-sum j n y fits, low (x % 2 ^ j) n q, high (x % 2 ^ j) n q) (split x j)
+    let fits : swapped n j x < 2 ^ (j + n) = rw s (swapped-fits n j x b) in
+    rw (rotr-sum j n x h, rotl-sum j n (swapped n j x) fits) (swapped-twice n j x b)
 
 -- what the code computes: the other shift's count is taken modulo w, so that a rotation by 0 shifts by 0 twice
 pub left-code : (w k x : ℕ) → k < w → x < 2 ^ w → bitOr ((x * 2 ^ k) % 2 ^ w) (x / 2 ^ ((w - k) % w)) ≡ rotl w k x
@@ -56,8 +71,16 @@ right-code w zero x h b =
     rw (sub-zero w, mod-self w, pow-zero 2, mul-one x, div-one x, mod-eq-of-lt b, mul-mod-left x (2 ^ w), or-self x, or-zero-r x)
 right-code w (suc k) x h b = let l : w - suc k < w = omega arith in rw (mod-eq-of-lt l)
 
--- the law for a byte: for every byte and every count from 0 to 7, rotating right undoes rotating left
-pub byte-back : (n x : ℕ) → n < 8 → x < 256 → rotr 8 n (rotl 8 n x) ≡ x
-byte-back n x h b =
-    let e : 8 - n + n ≡ 8 = omega arith in
-    subst (λ (w : ℕ). rotr w n (rotl w n x) ≡ x) e (rotr-rotl (8 - n) n x (subst (λ (w : ℕ). x < 2 ^ w) (sym e) b))
+-- the laws for a byte: for every byte and every count from 0 to 7, each rotation undoes the other
+module _ (n x : ℕ) (h : n < 8) (b : x < 256) where
+  width : 8 - n + n ≡ 8
+  width = omega arith
+
+  fits-width : x < 2 ^ (8 - n + n)
+  fits-width = subst (λ (w : ℕ). x < 2 ^ w) (sym width) b
+
+  pub byte-back : rotr 8 n (rotl 8 n x) ≡ x
+  byte-back = subst (λ (w : ℕ). rotr w n (rotl w n x) ≡ x) width (rotr-rotl (8 - n) n x fits-width)
+
+  pub byte-forth : rotl 8 n (rotr 8 n x) ≡ x
+  byte-forth = subst (λ (w : ℕ). rotl w n (rotr w n x) ≡ x) width (rotl-rotr (8 - n) n x fits-width)

@@ -197,7 +197,7 @@ fn verifier_step(v: u16, b: u8) -> u16
     ensures { λ r. ⌜ r ≡ verifierStep v b ⌝ }
 {
     let intermediate1 = v / 0x4000 % 2;
-    let intermediate2 = (v << 1) % 0x8000;
+    let intermediate2 = word::wrapping_mul_u16(v, 2) % 0x8000;
     (intermediate1 | intermediate2) ^ (b as u16)
 }
 
