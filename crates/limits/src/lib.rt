@@ -1,5 +1,11 @@
 // The bounds of the Rust source's limits.rs that the Excel stream part uses, under its names; its range
-// RC4_KEY_BITS is two numbers here. Two more are document 01's own: PASSWORD_MAX_LEN and SCRATCH_LEN.
+// RC4_KEY_BITS is two numbers here. Two more are document 01's own: PASSWORD_MAX_LEN and SCRATCH_LEN. The tests of a
+// header's size and of a key size stand beside their bounds, so that a wrong bound is refused here.
+ghost use mathlib.Core.Path.{_≡_};
+ghost use mathlib.Core.Bool.{_&&_, _||_};
+ghost use Prim.Native.Nat.{_%_};
+ghost use lib.Dec.{eqb};
+ghost use Rattle.laws.specs.Choice.{within};
 
 // The first bytes of a stream that are looked at for a FILEPASS record.
 pub const BIFF_SCAN_CAP: usize = 0x10_0000;
@@ -26,3 +32,18 @@ pub const XOR_PASSWORD_MAX_LEN: usize = 15;
 pub const PASSWORD_MAX_LEN: usize = 1024;
 
 pub const SCRATCH_LEN: usize = 2064;
+
+// An encryption header's size that is taken: document 01's question 16.
+pub fn size_fits(size: u32) -> bool
+    ensures { λ r. ⌜ r ≡ within 32 1024 size ⌝ }
+{
+    let bytes = size as usize;
+    (RC4_ENCRYPTION_HEADER_SIZE_MIN <= bytes) & (bytes <= RC4_ENCRYPTION_HEADER_SIZE_MAX)
+}
+
+// A key size in bits that is taken: document 01's question 23.
+pub fn key_size_fits(bits: u32) -> bool
+    ensures { λ r. ⌜ r ≡ (eqb bits 0 || (within 40 128 bits && eqb (bits % 8) 0)) ⌝ }
+{
+    (bits == 0) | ((RC4_KEY_BITS_MIN <= bits) & (bits <= RC4_KEY_BITS_MAX) & (bits % 8 == 0))
+}

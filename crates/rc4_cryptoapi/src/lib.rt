@@ -55,13 +55,6 @@ fn field(s: &[u8], at: usize) -> u32
     word::from_le_bytes(s[at], s[at + 1], s[at + 2], s[at + 3])
 }
 
-// A header size that is taken.
-fn size_fits(size: u32) -> bool
-    ensures { λ r. ⌜ r ≡ within 32 1024 size ⌝ }
-{
-    (32 <= size) & (size <= 1024)
-}
-
 // Whether a flag is clear.
 fn clear(flags: u32, flag: u32) -> bool
     ensures { λ r. ⌜ r ≡ eqb (bitAnd flags flag) 0 ⌝ }
@@ -74,13 +67,6 @@ fn zero_or(value: u32, named: u32) -> bool
     ensures { λ r. ⌜ r ≡ (eqb value 0 || eqb value named) ⌝ }
 {
     (value == 0) | (value == named)
-}
-
-// A key size that is taken.
-fn key_size_fits(bits: u32) -> bool
-    ensures { λ r. ⌜ r ≡ (eqb bits 0 || (within 40 128 bits && eqb (bits % 8) 0)) ⌝ }
-{
-    (bits == 0) | ((40 <= bits) & (bits <= 128) & (bits % 8 == 0))
 }
 
 // The key size in bits, 0 read as 40.
@@ -103,7 +89,7 @@ pub fn parse(structure: &[u8]) -> Parsed
         return Parsed::Refused(file_params::Refusal::EncryptionInfoTruncated(have));
     }
     let size = field(structure, 8);
-    if !size_fits(size) {
+    if !limits::size_fits(size) {
         return Parsed::Refused(file_params::Refusal::EncryptionHeaderSizeOutOfRange(size));
     }
     let verifier = PREFIX_LEN + (size as usize);
@@ -129,7 +115,7 @@ pub fn parse(structure: &[u8]) -> Parsed
         return Parsed::Refused(file_params::Refusal::UnsupportedAlgIdHash(alg_id_hash));
     }
     let key_size = field(structure, 28);
-    if !key_size_fits(key_size) {
+    if !limits::key_size_fits(key_size) {
         return Parsed::Refused(file_params::Refusal::EncryptionHeaderKeySize(key_size));
     }
     if have < verifier + VERIFIER_LEN {
@@ -157,7 +143,7 @@ pub fn parse(structure: &[u8]) -> Parsed
 fn long_key(key_bits: u32) -> bool
     ensures { λ r. ⌜ r ≡ within 48 128 «key_bits» ⌝ }
 {
-    (48 <= key_bits) & (key_bits <= 128)
+    (48 <= key_bits) & (key_bits <= limits::RC4_KEY_BITS_MAX)
 }
 
 // SHA-1 of H0 and the block's number.
