@@ -1,0 +1,83 @@
+-- The numbers of the questions: each group's by computing, and of all of them that they never fall, since the lists that the choices of `questions` leave
+-- are few, and a test over each is computed.
+-- Assumes nothing.
+use mathlib.Core.Path.{_≡_, refl}
+use mathlib.Core.Bool.{Bool, true, false, _&&_}
+use mathlib.Core.List.{List, [], _∷_, _++_}
+use Prim.Native.Nat.{ℕ, zero, suc, _≤_, _<_}
+use native.Mathlib.Omega.{arith}
+use borrow.Author.Tests.{leb-true}
+use lib.Dec.{eqb, leb}
+use lib.ListN.{length, getD}
+use Rattle.laws.specs.Choice.{pick}
+use Rattle.file_params.specs.declared.Refusal.the-variants.{WrongPassword}
+use Rattle.file_params.specs.Questions.{Question, ask, only, lent, book, encryptionType, version, office97, cryptoApi, rc4, lock, questions, filepassBody, structureOf, typeOf, isOffice97, isCryptoApi}
+use Rattle.file_params.specs.Numbers.{numbers, Numbered, Rising}
+
+pub numbered : Numbered
+unfolding lent book encryptionType version office97 cryptoApi
+numbered =
+    record {
+      of-lent = λ password stream scratch output. refl;
+      of-book = λ stream. refl;
+      of-type = λ body. refl;
+      of-version = λ structure. refl;
+      of-office97 = λ structure. refl;
+      of-cryptoApi = λ structure. refl;
+      of-check = refl;
+    }
+
+-- a test that a list never falls, from a number on
+abbrev risingFrom : ℕ → List ℕ → Bool
+risingFrom m [] = true
+risingFrom m (n ∷ ns) = leb m n && risingFrom n ns
+
+both : (t u : Bool) → (t && u) ≡ true → (t ≡ true) × (u ≡ true)
+both true u e = (refl, e)
+both false u e = (e, elim u [ true ↦ refl | false ↦ e ])
+
+-- and what it says of each element, and of any two
+above : (m : ℕ) (ns : List ℕ) → risingFrom m ns ≡ true → (i : ℕ) → i < length ns → m ≤ getD ns i 0
+above m [] e i h = omega arith
+above m (n ∷ ns) e zero h = leb-true m n (both (leb m n) (risingFrom n ns) e .0)
+above m (n ∷ ns) e (suc i) h =
+    let parts = both (leb m n) (risingFrom n ns) e in
+    let first = leb-true m n (parts .0) in
+    let rest = above n ns (parts .1) i (omega arith) in
+    omega arith
+
+never-falls : (m : ℕ) (ns : List ℕ) → risingFrom m ns ≡ true → (i j : ℕ) → i ≤ j → j < length ns → getD ns i 0 ≤ getD ns j 0
+never-falls m [] e i j h k = omega arith
+never-falls m (n ∷ ns) e zero zero h k = omega arith
+never-falls m (n ∷ ns) e zero (suc j) h k = above n ns (both (leb m n) (risingFrom n ns) e .1) j (omega arith)
+never-falls m (n ∷ ns) e (suc i) zero h k = omega arith
+never-falls m (n ∷ ns) e (suc i) (suc j) h k = never-falls n ns (both (leb m n) (risingFrom n ns) e .1) i j (omega arith) (omega arith)
+
+-- the choices of `questions`: whether the type is 1, and which family the version names
+by-choices : (stream password scratch output : List ℕ) (passes : Bool) → risingFrom 0 (numbers (questions stream password scratch output passes)) ≡ true
+unfolding questions lent book lock encryptionType only pick rc4 version office97 cryptoApi
+by-choices stream password scratch output passes = go (eqb (typeOf body) 1) (isOffice97 structure) (isCryptoApi structure)
+  where
+    body : List ℕ
+    body = filepassBody stream
+
+    structure : List ℕ
+    structure = structureOf body
+
+    families : Bool → Bool → List Question
+    families u v = version structure ++ (only u (office97 structure) ++ only v (cryptoApi structure))
+
+    go : (t u v : Bool)
+        → risingFrom 0
+        (numbers
+        (lent password (length stream) (length scratch) (length output)
+        ++ (book stream ++ ((encryptionType body ++ only t (families u v)) ++ (ask passes WrongPassword ∷ [])))))
+        ≡ true
+    go false u v = refl
+    go true true true = refl
+    go true true false = refl
+    go true false true = refl
+    go true false false = refl
+
+pub rising : Rising
+rising = record { rises = λ stream password scratch output passes. never-falls 0 (numbers (questions stream password scratch output passes)) (by-choices stream password scratch output passes) }
