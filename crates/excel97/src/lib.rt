@@ -44,38 +44,38 @@ pub enum Answer {
 }
 
 // Whether a group of questions was passed.
-pub enum Checked {
+enum Checked {
     Fine,
     Refused(file_params::Refusal),
 }
 
 // Where the first FILEPASS is: the offset of its header, and the length of its body.
-pub enum Found {
+enum Found {
     At(usize, u16),
     Nothing,
 }
 
 // The first id before FILEPASS that is not one of the seven.
-pub enum Other {
+enum Other {
     Id(u16),
     InOrder,
 }
 
 // A stream whose records are in order: how many, and where the first FILEPASS is.
-pub struct Book {
-    pub records: usize,
-    pub at: usize,
-    pub len: u16,
+struct Book {
+    records: usize,
+    at: usize,
+    len: u16,
 }
 
 // What came of walking a stream.
-pub enum Surveyed {
+enum Surveyed {
     Locked(Book),
     Refused(file_params::Refusal),
 }
 
 // What came of reading a FILEPASS body.
-pub enum Scheme {
+enum Scheme {
     Xor,
     Rc4(block_keys::Rc4Lock),
     Refused(file_params::Refusal),
@@ -232,9 +232,9 @@ fn find_lock(body: &[u8]) -> Scheme
 }
 
 // A password tried on an XOR lock: whether it passes, and the array that it makes.
-pub struct Tried {
-    pub ok: bool,
-    pub array: [u8; 16],
+struct Tried {
+    ok: bool,
+    array: [u8; 16],
 }
 
 // The field of two bytes at an offset of a FILEPASS body.

@@ -26,9 +26,9 @@ pub struct Pair {
 }
 
 // Two tables.
-pub struct Tables {
-    pub first: [u8; 256],
-    pub second: [u8; 256],
+struct Tables {
+    first: [u8; 256],
+    second: [u8; 256],
 }
 
 fn wide(x: u8) -> usize
