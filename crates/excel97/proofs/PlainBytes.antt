@@ -126,6 +126,7 @@ module _ (s p : List ℕ) where
         record {
           bounds = rw at-start (b .0);
           ends = rw at-start (b .1);
+          covered = covered s clean;
           own = λ r o e h g. byte-is o (in-stream s r o e) ∙ kept-byte r o e g h;
           zeroed = λ o h e. byte-is o h ∙ zeroed-byte o h e;
           deciphered = λ f r o e h g. byte-is o (in-stream s r o e) ∙ rc4-byte r o e g (not-xor (λ q. f (ap (λ (y : Report). y .lock) told ∙ q))) h;

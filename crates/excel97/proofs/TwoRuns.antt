@@ -26,22 +26,22 @@ use Rattle.excel97.proofs.PlainBytes.{plain-left, length-plain}
 module _ (stream p scratch output : List ℕ) (a : Answer) where
   by-check : (t : Bool) → passes (filepassBody stream) p ≡ t → a ≡ outcomeBy stream p scratch output (decided none t) .answer → Decided stream p a
   unfolding pick
-  by-check true e g = record { fails = λ h. cc; failed = λ h. cc; succeeds = λ told h. e; succeeded = λ h. (report stream, g) }
-  by-check false e g = record { fails = λ h. e; failed = λ h. g; succeeds = λ told h. cc; succeeded = λ h. (report stream, cc) }
+  by-check true e g = record { fails = λ r n h. cc; failed = λ h. (WrongPassword, refl, cc); succeeds = λ told h. e; succeeded = λ h. (report stream, g) }
+  by-check false e g = record { fails = λ r n h. e; failed = λ h. (WrongPassword, refl, g); succeeds = λ told h. cc; succeeded = λ h. (report stream, cc) }
 
   by-questions : (c : Option Refusal) → ((r : Refusal) → c ≡ some r → number r ≤ 26) → a ≡ outcomeBy stream p scratch output (decided c (passes (filepassBody stream) p)) .answer
-      → ((r : Refusal) → a ≡ Refused r → r ≡ WrongPassword) → Decided stream p a
+      → ((r : Refusal) → a ≡ Refused r → number r ≡ 27) → Decided stream p a
   by-questions none small g f = by-check (passes (filepassBody stream) p) refl g
-  by-questions (some r) small g f = let e : number r ≡ 27 = ap number (f r g) in let h = small r refl in absurd (no e h)
+  by-questions (some r) small g f = let e = f r g in let h = small r refl in absurd (no e h)
     where
       no : number r ≡ 27 → number r ≤ 26 → ⊥
       no e h = omega arith
 
 -- one run, by what the earlier questions give and by its check
 record Alone (stream p scratch output : List ℕ) (a : Answer) (scratch₁ output₁ : List ℕ) : Type 0 where
-  earlier-refusal : (r : Refusal) → (r ≡ WrongPassword → ⊥) → a ≡ Refused r → asked (earlier stream scratch output) ≡ some r
+  earlier-refusal : (r : Refusal) → (number r ≡ 27 → ⊥) → a ≡ Refused r → asked (earlier stream scratch output) ≡ some r
   refusal : (r : Refusal) → asked (earlier stream scratch output) ≡ some r → a ≡ Refused r
-  check : ((r : Refusal) → a ≡ Refused r → r ≡ WrongPassword) → Decided stream p a
+  check : ((r : Refusal) → a ≡ Refused r → number r ≡ 27) → Decided stream p a
   scratch-is : scratch₁ ≡ scratchBy scratch (asked (earlier stream scratch output))
   untouched : (r : Refusal) → a ≡ Refused r → output₁ ≡ output
   told : (x : Report) → a ≡ Opened x → x ≡ report stream
@@ -52,7 +52,7 @@ alone : (stream p scratch output : List ℕ) (a : Answer) (scratch₁ output₁ 
     → Alone stream p scratch output a scratch₁ output₁
 alone stream p scratch output a scratch₁ output₁ short fine run =
     record {
-      earlier-refusal = λ r f e. not-last c t r f (refusing stream p scratch output a scratch₁ output₁ (decided c t) this r e .given);
+      earlier-refusal = λ r f e. not-last c t r (λ q. f (ap number q)) (refusing stream p scratch output a scratch₁ output₁ (decided c t) this r e .given);
       refusal = λ r e. rw e at (this .answered);
       check = by-questions stream p scratch output a c (earlier-number stream scratch output) (this .answered);
       scratch-is = this .scratch-left ∙ scratch-by stream p scratch output c t;

@@ -9,7 +9,7 @@ use lib.Bits.{bitXor}
 use lib.ListN.{length, getD, take, drop}
 use Rattle.binary_office.specs.Walk.{BiffRecord, walk, clearLen}
 use Rattle.file_params.specs.declared.Refusal.{Refusal}
-use Rattle.file_params.specs.declared.Refusal.the-variants.{WrongPassword}
+use Rattle.file_params.specs.Refusal.{number}
 use Rattle.file_params.specs.Questions.{filepass, filepassBody, structureOf}
 use Rattle.block_keys.specs.Lock.{lockOf, saltOf}
 use Rattle.excel97.specs.declared.Lock.the-variants.{Xor}
@@ -32,6 +32,8 @@ pub record Plain (stream password output′ : List ℕ) (told : Report) : Type 0
   -- "Up to there each output has the stream's record bounds,"
   pub bounds : boundsOf (walk (take (length stream) output′) .records) ≡ boundsOf (walk stream .records)
   pub ends : walk (take (length stream) output′) .ends ≡ walk stream .ends
+  -- every byte up to there lies in a record, so that what follows speaks of each of them
+  pub covered : (o : ℕ) → o < length stream → (r : BiffRecord) × (recordAt (walk stream .records) o ≡ some r)
   -- "and the stream's own bytes in every header and clear part,"
   pub own : (r : BiffRecord) (o : ℕ) → recordAt (walk stream .records) o ≡ some r → o < r .at + 4 + clearLen (r .id) (r .len)
       → blanked (filepass (walk stream .records)) o ≡ false → getD output′ o 0 ≡ getD stream o 0
@@ -46,8 +48,8 @@ pub record Plain (stream password output′ : List ℕ) (told : Report) : Type 0
 
 -- what the check decides of one run, where no other refusal was given
 pub record Decided (stream password : List ℕ) (answer : Answer) : Type 0 where
-  pub fails : answer ≡ Refused WrongPassword → passes (filepassBody stream) password ≡ false
-  pub failed : passes (filepassBody stream) password ≡ false → answer ≡ Refused WrongPassword
+  pub fails : (r : Refusal) → number r ≡ 27 → answer ≡ Refused r → passes (filepassBody stream) password ≡ false
+  pub failed : passes (filepassBody stream) password ≡ false → (r : Refusal) × (number r ≡ 27) × (answer ≡ Refused r)
   pub succeeds : (told : Report) → answer ≡ Opened told → passes (filepassBody stream) password ≡ true
   pub succeeded : passes (filepassBody stream) password ≡ true → (told : Report) × (answer ≡ Opened told)
 
@@ -55,11 +57,11 @@ pub record Decided (stream password : List ℕ) (answer : Answer) : Type 0 where
 -- alone can part their refusals and reports: whether demand 2's password check passes."
 pub record Demand3 (stream scratch output p q : List ℕ) (a b : Answer) (scratch₁ output₁ scratch₂ output₂ : List ℕ) : Type 0 where
   -- "One gets a refusal other than 27 exactly when the other gets the same, details included;"
-  pub refusal-to : (r : Refusal) → (r ≡ WrongPassword → ⊥) → a ≡ Refused r → b ≡ Refused r
-  pub refusal-from : (r : Refusal) → (r ≡ WrongPassword → ⊥) → b ≡ Refused r → a ≡ Refused r
+  pub refusal-to : (r : Refusal) → (number r ≡ 27 → ⊥) → a ≡ Refused r → b ≡ Refused r
+  pub refusal-from : (r : Refusal) → (number r ≡ 27 → ⊥) → b ≡ Refused r → a ≡ Refused r
   -- "else each gets 27 exactly when its check fails, and a report when it passes."
-  pub else-first : ((r : Refusal) → a ≡ Refused r → r ≡ WrongPassword) → Decided stream p a
-  pub else-second : ((r : Refusal) → b ≡ Refused r → r ≡ WrongPassword) → Decided stream q b
+  pub else-first : ((r : Refusal) → a ≡ Refused r → number r ≡ 27) → Decided stream p a
+  pub else-second : ((r : Refusal) → b ≡ Refused r → number r ≡ 27) → Decided stream q b
   -- "Two refused leave scratch and output alike in every byte."
   pub refused-scratch : (r s : Refusal) → a ≡ Refused r → b ≡ Refused s → scratch₁ ≡ scratch₂
   pub refused-output : (r s : Refusal) → a ≡ Refused r → b ≡ Refused s → output₁ ≡ output₂
