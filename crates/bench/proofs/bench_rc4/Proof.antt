@@ -17,11 +17,15 @@ returns c =
 
 returns-2 : tie.Need-returns-2
 returns-2 c =
-    let a = c .before .before .before .before .before .before .before .before .before .before .args in
-    let n = c .before .before .before .before .before .before .new in
-    let o : n .result .ok ≡ true = not-false _ (c .before .before .before .before .before .if1 .left) in (
+    let at-apply = c .before .before in
+    let at-if1 = at-apply .before .before .before in
+    let at-new = at-if1 .before in
+    let start = at-new .before .before .before .before in
+    let a = start .args in
+    let n = at-new .new in
+    let o : n .result .ok ≡ true = not-false _ (at-if1 .if1 .left) in (
       sym o ∙ ap (λ (m : Made). m .ok) (n .ensures),
-      c .before .before .apply .ensures .bytes ∙ ap (λ (m : Made). enciphered (m .keystream) (a .src .now) (a .dst .now)) (n .ensures) ∙ stop _ refl,
+      at-apply .apply .ensures .bytes ∙ ap (λ (m : Made). enciphered (m .keystream) (a .src .now) (a .dst .now)) (n .ensures) ∙ stop _ refl,
     )
 
 pub bench-rc4-spec : {M : Type 1} → statement M

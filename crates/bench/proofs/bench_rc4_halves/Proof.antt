@@ -21,8 +21,11 @@ returns : tie.Need-returns
 returns c =
     let q = c .before .before .before .before in
     let p = q .before .before .before .before .before .before .new-pair in
-    let a = q .before .before .before .before .before .before .before .before .before .before .before .args in
-    (both (p .result .first) _ (p .result .second) _ (p .ensures .0) (p .ensures .1), halves (p .result .first) _ (p .result .second) _ (p .ensures .0) (p .ensures .1) (a .src .now) (a .dst .now) _ (q .apply-halves .ensures .bytes))
+    let a = q .before .before .before .before .before .before .before .before .before .before .before .args in (
+      both (p .result .first) _ (p .result .second) _ (p .ensures .0) (p .ensures .1),
+      halves (p .result .first) _ (p .result .second) _ (p .ensures .0)
+          (p .ensures .1) (a .src .now) (a .dst .now) _ (q .apply-halves .ensures .bytes),
+    )
 
 pub bench-rc4-halves-spec : {M : Type 1} → statement M
 bench-rc4-halves-spec = tie.close (tie.spec (λ c κs. search needs) (λ c κs. search needs) (λ c. search needs) returns)

@@ -23,11 +23,16 @@ five n e = omega arith
 returns : tie.Need-returns
 unfolding tabulate
 returns c =
+    let start = c .before .before .before .before in
+    let args = start .args in
     c .block-key .ensures
-    ∙ ap derived (ap (λ (l : List ℕ). office97.blockKey l (c .before .before .before .before .args .block)) (heads (c .before .before .before .before .args .schedule .digest) 5 (five _ (twenty (c .before .before .before .before)))) ∙ sym (key-97 (c .before .before .before .before .args .schedule) (c .before .before .before .before .args .block) (c .before .enum-told .given .1)))
+    ∙ ap derived (ap (λ (l : List ℕ). office97.blockKey l (args .block)) (heads (args .schedule .digest) 5 (five _ (twenty start))) ∙ sym
+    (key-97 (args .schedule) (args .block) (c .before .enum-told .given .1)))
 
 returns-2 : tie.Need-returns-2
-returns-2 c = c .block-key2 .ensures ∙ ap derived (sym (key-api (c .before .before .before .before .args .schedule) (c .before .before .before .before .args .block) (c .before .enum-told2 .given .1)))
+returns-2 c =
+    let start = c .before .before .before .before in
+    c .block-key2 .ensures ∙ ap derived (sym (key-api (start .args .schedule) (start .args .block) (c .before .enum-told2 .given .1)))
 
 pub block-key-spec : {M : Type 1} → statement M
 block-key-spec =

@@ -25,20 +25,28 @@ loop-holds c = (search needs, search needs, refl)
 
 loop-again : tie.Need-loop-again Inv-loop μ-loop
 loop-again c =
-    let l = c .before .before .loop in
-    let a = c .before .before .before .before .before .args in
-    (search needs, search needs, tabulate-store (λ (i : ℕ). getD (a .structure .now) (a .at + i) 0) (l .dst) (l .i) (c .byte-at .result) (search needs) (l .inv .2) (c .byte-at .ensures))
+    let at-loop = c .before .before in
+    let start = at-loop .before .before .before in
+    let l = at-loop .loop in
+    let a = start .args in (
+      search needs,
+      search needs,
+      tabulate-store (λ (i : ℕ). getD (a .structure .now) (a .at + i) 0) (l .dst) (l .i) (c .byte-at .result) (search needs)
+          (l .inv .2) (c .byte-at .ensures),
+    )
 
 same-length : tie.Need-same-length Inv-loop μ-loop
 same-length c = c .before .loop .inv .1
 
 returns : tie.Need-returns Inv-loop μ-loop
 returns c =
+    let start = c .before .before .before .before in
+    let args = start .args in
     let l = c .before .loop in
     let h = l .inv .0 in
     let k = l .inv .1 in
-    let e : l .i ≡ length (c .before .before .before .before .args .dst .now) = search needs in
-    sym (take-all (l .i) (l .dst) (search needs)) ∙ l .inv .2 ∙ ap (part (c .before .before .before .before .args .structure .now) (c .before .before .before .before .args .at)) e
+    let e : l .i ≡ length (args .dst .now) = search needs in
+    sym (take-all (l .i) (l .dst) (search needs)) ∙ l .inv .2 ∙ ap (part (args .structure .now) (args .at)) e
 
 pub copy-part-spec : {M : Type 1} → statement M
 copy-part-spec =

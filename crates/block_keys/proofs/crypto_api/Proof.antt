@@ -11,11 +11,20 @@ use Rattle.block_keys.proofs.crypto_api.Tie as tie
 
 returns : tie.Need-returns
 unfolding parsed
-returns c = refused-api (header (c .before .before .before .before .before .args .structure .now)) (cryptoApiLock (c .before .before .before .before .before .args .structure .now)) (asked (cryptoApi (c .before .before .before .before .before .args .structure .now))) _ (sym (c .before .before .before .parse .ensures) ∙ c .before .refusal .given .1)
+returns c =
+    let at-parse = c .before .before .before in
+    let start = at-parse .before .before in
+    let args = start .args in
+    refused-api (header (args .structure .now)) (cryptoApiLock (args .structure .now)) (asked (cryptoApi (args .structure .now))) _
+    (sym (at-parse .parse .ensures) ∙ c .before .refusal .given .1)
 
 returns-2 : tie.Need-returns-2
 unfolding parsed
-returns-2 c = read-api (c .before .before .before .before .before .before .args .structure .now) (asked (cryptoApi (c .before .before .before .before .before .before .args .structure .now))) _ (sym (c .before .before .before .before .parse .ensures) ∙ c .before .before .header .given .1)
+returns-2 c =
+    let at-header = c .before .before in
+    let at-parse = at-header .before .before in
+    let start = at-parse .before .before in
+    read-api (start .args .structure .now) (asked (cryptoApi (start .args .structure .now))) _ (sym (at-parse .parse .ensures) ∙ at-header .header .given .1)
 
 pub crypto-api-spec : {M : Type 1} → statement M
 crypto-api-spec =

@@ -8,7 +8,12 @@ use Rattle.block_keys.proofs.decrypt_block.Tie as tie
 
 returns : tie.Need-returns
 returns c =
-    one-block _ _ (blockKey (c .before .before .before .before .before .before .before .before .args .schedule) (c .before .before .before .before .before .before .before .before .args .block)) (c .before .before .before .before .before .before .before .before .args .src .now) (c .before .before .before .before .before .before .before .before .args .dst .now) _ (c .before .before .before .before .before .before .before .before .args .at) (c .before .before .before .before .before .before .before .before .args .end) (c .before .before .before .before .before .keystream-of .ensures) (c .before .before .before .before .before .before .before .before .pre .0) (c .before .before .before .before .before .before .before .before .pre .1) (c .before .before .before .before .before .before .before .before .pre .2) (c .before .before .apply .ensures)
+    let at-apply = c .before .before in
+    let at-keystream-of = at-apply .before .before .before in
+    let start = at-keystream-of .before .before .before in
+    let args = start .args in
+    one-block _ _ (blockKey (args .schedule) (args .block)) (args .src .now) (args .dst .now) _ (args .at) (args .end) (at-keystream-of .keystream-of .ensures)
+    (start .pre .0) (start .pre .1) (start .pre .2) (at-apply .apply .ensures)
 
 pub decrypt-block-spec : {M : Type 1} → statement M
 decrypt-block-spec =

@@ -9,12 +9,22 @@ use Rattle.block_keys.proofs.decrypt_in_blocks.Statement.{statement}
 use Rattle.block_keys.proofs.decrypt_in_blocks.Tie as tie
 
 returns : tie.Need-returns
-returns c = no-blocks (c .before .before .before .args .size) (blockKey (c .before .before .before .args .schedule)) (c .before .before .before .args .src .now) (c .before .before .before .args .dst .now) (c .if1 .taken)
+returns c =
+    let start = c .before .before .before in
+    let args = start .args in
+    no-blocks (args .size) (blockKey (args .schedule)) (args .src .now) (args .dst .now) (c .if1 .taken)
 
 returns-2 : tie.Need-returns-2
 returns-2 c =
-    all-blocks (c .before .before .before .before .before .before .before .before .before .before .before .before .args .size) (blockKey (c .before .before .before .before .before .before .before .before .before .before .before .before .args .schedule)) (c .before .before .before .before .before .before .before .before .before .before .before .before .args .src .now) (c .before .before .before .before .before .before .before .before .before .before .before .before .args .dst .now) (c .before .before .before .before .before .before .before .before .before .if1 .left) _ _ _ _ (c .before .before .before .before .before .before .before .before .least .ensures) (c .before .before .before .before .before .before .decrypt-pairs .ensures .0) (c .before .before .before .before .before .before .decrypt-pairs .ensures .1)
-    (c .before .before .decrypt-rest .ensures)
+    let at-decrypt-rest = c .before .before in
+    let at-decrypt-pairs = at-decrypt-rest .before .before .before .before in
+    let at-least = at-decrypt-pairs .before .before in
+    let at-if1 = at-least .before in
+    let start = at-if1 .before .before .before in
+    let args = start .args in
+    all-blocks (args .size) (blockKey (args .schedule)) (args .src .now) (args .dst .now) (at-if1 .if1 .left) _ _ _ _ (at-least .least .ensures)
+    (at-decrypt-pairs .decrypt-pairs .ensures .0) (at-decrypt-pairs .decrypt-pairs .ensures .1)
+    (at-decrypt-rest .decrypt-rest .ensures)
 
 pub decrypt-in-blocks-spec : {M : Type 1} → statement M
 decrypt-in-blocks-spec =

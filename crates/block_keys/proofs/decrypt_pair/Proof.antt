@@ -9,8 +9,13 @@ use Rattle.block_keys.proofs.decrypt_pair.Tie as tie
 
 returns : tie.Need-returns
 returns c =
-    two-blocks _ _ (blockKey (c .before .before .before .before .before .before .before .before .before .before .before .before .args .schedule) (c .before .before .before .before .before .before .before .before .before .before .before .before .args .block)) (blockKey (c .before .before .before .before .before .before .before .before .before .before .before .before .args .schedule) (c .before .before .before .before .before .before .before .before .before .before .before .before .args .block + 1)) (c .before .before .before .before .before .before .before .before .before .before .before .before .args .src .now) (c .before .before .before .before .before .before .before .before .before .before .before .before .args .dst .now) _ (c .before .before .before .before .before .before .before .before .before .before .before .before .args .at) (c .before .before .before .before .before .before .before .before .before .before .before .before .args .size) (c .before .before .before .before .before .before .before .before .before .keystreams-of .ensures .0) (c .before .before .before .before .before .before .before .before .before .keystreams-of .ensures .1)
-    (c .before .before .before .before .before .before .before .before .before .before .before .before .pre .2) (c .before .before .before .before .before .before .before .before .before .before .before .before .pre .3) (c .before .before .apply-halves .ensures)
+    let at-apply-halves = c .before .before in
+    let at-keystreams-of = at-apply-halves .before .before .before .before .before .before .before in
+    let start = at-keystreams-of .before .before .before in
+    let args = start .args in
+    two-blocks _ _ (blockKey (args .schedule) (args .block)) (blockKey (args .schedule) (args .block + 1)) (args .src .now) (args .dst .now) _ (args .at)
+    (args .size) (at-keystreams-of .keystreams-of .ensures .0) (at-keystreams-of .keystreams-of .ensures .1)
+    (start .pre .2) (start .pre .3) (at-apply-halves .apply-halves .ensures)
 
 pub decrypt-pair-spec : {M : Type 1} → statement M
 decrypt-pair-spec =

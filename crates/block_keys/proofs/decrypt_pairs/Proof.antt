@@ -32,49 +32,70 @@ small size n at len h k l m = omega arith
 
 decrypt-pair-requires : tie.Need-decrypt-pair-requires Inv-loop μ-loop
 decrypt-pair-requires c κs =
-    let l = c .before .before .loop in
-    let p = c .before .before .before .before .before .pre in
-    let r = room (c .before .before .before .before .before .args .size) (c .before .before .before .before .before .args .n) (l .at) (l .inv .1) (c .before .loop-test .taken) in
-    let f = fewer (l .block) (c .before .before .before .before .before .args .size) (p .0) in
+    let at-loop = c .before .before in
+    let start = at-loop .before .before .before in
+    let args = start .args in
+    let l = at-loop .loop in
+    let p = start .pre in
+    let r = room (args .size) (args .n) (l .at) (l .inv .1) (c .before .loop-test .taken) in
+    let f = fewer (l .block) (args .size) (p .0) in
     let e = l .inv .0 in
     let h = l .inv .1 in
     let s = p .1 in
     let d = p .2 in
     let w = l .inv .2 .same in
-    (omega (arith, c .before .before .before .before .before .good), omega (arith, c .before .before .before .before .before .good), omega arith, omega arith)
+    (omega (arith, start .good), omega (arith, start .good), omega arith, omega arith)
 
 loop-again : tie.Need-loop-again Inv-loop μ-loop
 loop-again c =
-    let l = c .before .before .before .before .before .loop in (
-      ap (λ (n : ℕ). n + (c .before .before .before .before .before .before .before .before .args .size + c .before .before .before .before .before .before .before .before .args .size)) (l .inv .0) ∙ sym (two-more (l .block) (c .before .before .before .before .before .before .before .before .args .size)),
-      room (c .before .before .before .before .before .before .before .before .args .size) (c .before .before .before .before .before .before .before .before .args .n) (l .at) (l .inv .1) (c .before .before .before .before .loop-test .taken),
-      pair-more (c .before .before .before .before .before .before .before .before .args .size) (blockKey (c .before .before .before .before .before .before .before .before .args .schedule)) (c .before .before .before .before .before .before .before .before .args .src .now) (c .before .before .before .before .before .before .before .before .args .dst .now) (l .dst) _ (l .block) (l .at) (l .inv .0) (l .inv .2) (c .before .before .decrypt-pair .ensures),
+    let at-decrypt-pair = c .before .before in
+    let at-loop-test = at-decrypt-pair .before .before in
+    let at-loop = at-loop-test .before in
+    let start = at-loop .before .before .before in
+    let args = start .args in
+    let l = at-loop .loop in (
+      ap (λ (n : ℕ). n + (args .size + args .size)) (l .inv .0) ∙ sym (two-more (l .block) (args .size)),
+      room (args .size) (args .n) (l .at) (l .inv .1) (at-loop-test .loop-test .taken),
+      pair-more (args .size) (blockKey (args .schedule)) (args .src .now) (args .dst .now) (l .dst) _ (l .block) (l .at) (l .inv .0) (l .inv .2)
+          (at-decrypt-pair .decrypt-pair .ensures),
     )
 
 add-at : tie.Need-add-at Inv-loop μ-loop
 add-at c =
-    let r = room (c .before .before .before .before .before .before .before .before .args .size) (c .before .before .before .before .before .before .before .before .args .n) (c .before .before .before .before .before .loop .at) (c .before .before .before .before .before .loop .inv .1) (c .before .before .before .before .loop-test .taken) in
-    let s = c .before .before .before .before .before .before .before .before .pre .1 in
-    omega (arith, c .before .before .before .before .before .before .before .before .good)
+    let at-loop-test = c .before .before .before .before in
+    let at-loop = at-loop-test .before in
+    let start = at-loop .before .before .before in
+    let r = room (start .args .size) (start .args .n) (at-loop .loop .at) (at-loop .loop .inv .1) (at-loop-test .loop-test .taken) in
+    let s = start .pre .1 in
+    omega (arith, start .good)
 
 add-at-2 : tie.Need-add-at-2 Inv-loop μ-loop
 add-at-2 c =
-    let r = room (c .before .before .before .before .before .before .before .before .args .size) (c .before .before .before .before .before .before .before .before .args .n) (c .before .before .before .before .before .loop .at) (c .before .before .before .before .before .loop .inv .1) (c .before .before .before .before .loop-test .taken) in
-    let s = c .before .before .before .before .before .before .before .before .pre .1 in
-    omega (arith, c .before .before .before .before .before .before .before .before .good)
+    let at-loop-test = c .before .before .before .before in
+    let at-loop = at-loop-test .before in
+    let start = at-loop .before .before .before in
+    let r = room (start .args .size) (start .args .n) (at-loop .loop .at) (at-loop .loop .inv .1) (at-loop-test .loop-test .taken) in
+    let s = start .pre .1 in
+    omega (arith, start .good)
 
 add-block : tie.Need-add-block Inv-loop μ-loop
 add-block c =
-    let f = fewer (c .before .before .before .before .before .loop .block) (c .before .before .before .before .before .before .before .before .args .size) (c .before .before .before .before .before .before .before .before .pre .0) in
-    let e = c .before .before .before .before .before .loop .inv .0 in
-    let h = c .before .before .before .before .before .loop .inv .1 in
-    let s = c .before .before .before .before .before .before .before .before .pre .1 in
-    omega (arith, c .before .before .before .before .before .before .before .before .good)
+    let at-loop = c .before .before .before .before .before in
+    let loop = at-loop .loop in
+    let start = at-loop .before .before .before in
+    let f = fewer (loop .block) (start .args .size) (start .pre .0) in
+    let e = loop .inv .0 in
+    let h = loop .inv .1 in
+    let s = start .pre .1 in
+    omega (arith, start .good)
 
 loop-less : tie.Need-loop-less Inv-loop μ-loop
 loop-less c =
-    let r = room (c .before .before .before .before .before .before .before .before .args .size) (c .before .before .before .before .before .before .before .before .args .n) (c .before .before .before .before .before .loop .at) (c .before .before .before .before .before .loop .inv .1) (c .before .before .before .before .loop-test .taken) in
-    let p = c .before .before .before .before .before .before .before .before .pre .0 in
+    let at-loop-test = c .before .before .before .before in
+    let at-loop = at-loop-test .before in
+    let start = at-loop .before .before .before in
+    let r = room (start .args .size) (start .args .n) (at-loop .loop .at) (at-loop .loop .inv .1) (at-loop-test .loop-test .taken) in
+    let p = start .pre .0 in
     omega arith
 
 same-length : tie.Need-same-length Inv-loop μ-loop

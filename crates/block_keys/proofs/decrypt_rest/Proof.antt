@@ -19,40 +19,53 @@ abbrev μ-loop : tie.MeasureT-loop
 μ-loop schedule size from n src dst₀ block₀ at₀ dst block at = n - at
 
 mul-at : tie.Need-mul-at Inv-loop μ-loop
-mul-at c = let p = c .before .before .pre .1 in let s = c .before .before .pre .2 in omega (arith, c .before .before .good)
+mul-at c =
+    let start = c .before .before in
+    let p = start .pre .1 in let s = start .pre .2 in omega (arith, start .good)
 
 loop-holds : tie.Need-loop-holds Inv-loop μ-loop
 loop-holds c = (search needs, c .before .before .pre .1, λ h. refl, written-none _ _ _)
 
 add-end : tie.Need-add-end Inv-loop μ-loop
 add-end c =
+    let at-loop = c .before .before in
+    let start = at-loop .before .before .before in
     let e = c .least .ensures in
-    let h = c .before .before .loop .inv .1 in
-    let s = c .before .before .before .before .before .pre .2 in
-    omega (arith, c .before .before .before .before .before .good)
+    let h = at-loop .loop .inv .1 in
+    let s = start .pre .2 in
+    omega (arith, start .good)
 
 decrypt-block-requires : tie.Need-decrypt-block-requires Inv-loop μ-loop
 decrypt-block-requires c κs =
+    let at-loop = c .before .before .before in
+    let start = at-loop .before .before .before in
     let e = c .before .least .ensures in
-    let h = c .before .before .before .loop .inv .1 in
-    let s = c .before .before .before .before .before .before .pre .2 in
-    let d = c .before .before .before .before .before .before .pre .3 in
-    let w = c .before .before .before .loop .inv .3 .same in
+    let h = at-loop .loop .inv .1 in
+    let s = start .pre .2 in
+    let d = start .pre .3 in
+    let w = at-loop .loop .inv .3 .same in
     (omega arith, omega arith, omega arith)
 
 add-block : tie.Need-add-block Inv-loop μ-loop
 add-block c =
-    let f = fewer (c .before .before .before .before .before .before .loop .block) (c .before .before .before .before .before .before .before .before .before .args .size) (c .before .before .before .before .before .before .before .before .before .pre .0) in
-    let e = c .before .before .before .before .before .before .loop .inv .2 (c .before .before .before .before .before .loop-test .taken) in
-    let h = c .before .before .before .before .before .before .loop .inv .1 in
-    let s = c .before .before .before .before .before .before .before .before .before .pre .2 in
-    omega (arith, c .before .before .before .before .before .before .before .before .before .good)
+    let at-loop-test = c .before .before .before .before .before in
+    let at-loop = at-loop-test .before in
+    let loop = at-loop .loop in
+    let start = at-loop .before .before .before in
+    let f = fewer (loop .block) (start .args .size) (start .pre .0) in
+    let e = loop .inv .2 (at-loop-test .loop-test .taken) in
+    let h = loop .inv .1 in
+    let s = start .pre .2 in
+    omega (arith, start .good)
 
 loop-less : tie.Need-loop-less Inv-loop μ-loop
 loop-less c =
-    let e = c .before .before .before .before .least .ensures in
-    let t = c .before .before .before .before .before .loop-test .taken in
-    let p = c .before .before .before .before .before .before .before .before .before .pre .0 in
+    let at-least = c .before .before .before .before in
+    let at-loop-test = at-least .before in
+    let start = at-loop-test .before .before .before .before in
+    let e = at-least .least .ensures in
+    let t = at-loop-test .loop-test .taken in
+    let p = start .pre .0 in
     omega arith
 
 next : (size n at m : ℕ) → m ≡ min size (n - at) → at + m < n → m ≡ size
@@ -60,15 +73,22 @@ next size n at m e h = omega arith
 
 loop-again : tie.Need-loop-again Inv-loop μ-loop
 loop-again c =
-    let l = c .before .before .before .before .before .before .loop in
-    let e = c .before .before .before .before .least .ensures in
-    let g = l .inv .2 (c .before .before .before .before .before .loop-test .taken) in
-    let t = c .before .before .before .before .before .loop-test .taken in
+    let at-decrypt-block = c .before .before in
+    let at-least = at-decrypt-block .before .before in
+    let at-loop-test = at-least .before in
+    let at-loop = at-loop-test .before in
+    let start = at-loop .before .before .before in
+    let args = start .args in
+    let l = at-loop .loop in
+    let e = at-least .least .ensures in
+    let g = l .inv .2 (at-loop-test .loop-test .taken) in
+    let t = at-loop-test .loop-test .taken in
     let h = l .inv .0 in (
       omega arith,
       omega arith,
-      (λ k. ap (λ (m : ℕ). l .at + m) (next (c .before .before .before .before .before .before .before .before .before .args .size) (c .before .before .before .before .before .before .before .before .before .args .n) (l .at) _ e k) ∙ ap (λ (n : ℕ). n + c .before .before .before .before .before .before .before .before .before .args .size) g ∙ sym (one-more (l .block) (c .before .before .before .before .before .before .before .before .before .args .size))),
-      block-more (c .before .before .before .before .before .before .before .before .before .args .size) (blockKey (c .before .before .before .before .before .before .before .before .before .args .schedule)) (c .before .before .before .before .before .before .before .before .before .args .src .now) (c .before .before .before .before .before .before .before .before .before .args .dst .now) (l .dst) _ (l .block) (l .at) g _ _ h (omega arith) (omega arith) (l .inv .3) (c .before .before .decrypt-block .ensures),
+      (λ k. ap (λ (m : ℕ). l .at + m) (next (args .size) (args .n) (l .at) _ e k) ∙ ap (λ (n : ℕ). n + args .size) g ∙ sym (one-more (l .block) (args .size))),
+      block-more (args .size) (blockKey (args .schedule)) (args .src .now) (args .dst .now) (l .dst) _ (l .block) (l .at) g _ _ h (omega arith) (omega arith)
+          (l .inv .3) (at-decrypt-block .decrypt-block .ensures),
     )
 
 same-length : tie.Need-same-length Inv-loop μ-loop
@@ -76,9 +96,10 @@ same-length c = c .before .loop .inv .3 .same
 
 returns : tie.Need-returns Inv-loop μ-loop
 returns c =
+    let start = c .before .before .before .before in
     let l = c .before .loop in
     let h = l .inv .1 in
-    let e : l .at ≡ c .before .before .before .before .args .n = search needs in
+    let e : l .at ≡ start .args .n = search needs in
     rw (← e) (l .inv .3)
 
 pub decrypt-rest-spec : {M : Type 1} → statement M

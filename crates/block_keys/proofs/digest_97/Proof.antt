@@ -17,7 +17,11 @@ returns c = digests-none _ _ _ _ _ _ _ (c .before .before .before .before .md5-p
 
 returns-2 : tie.Need-returns-2
 returns-2 c =
-    digests-some _ _ _ _ _ _ _ (c .before .before .before .before .before .before .before .md5-password .ensures) (λ (h : List ℕ). truncated h (c .before .before .before .before .before .before .before .before .before .before .before .args .salt) ++ replicate 15 0) 20 _ (not-false _ (c .before .before .before .if1 .left))
+    let at-if1 = c .before .before .before in
+    let at-md5-password = at-if1 .before .before .before .before in
+    let start = at-md5-password .before .before .before .before in
+    digests-some _ _ _ _ _ _ _ (at-md5-password .md5-password .ensures) (λ (h : List ℕ). truncated h (start .args .salt) ++ replicate 15 0) 20 _
+    (not-false _ (at-if1 .if1 .left))
     (c .widened .ensures ∙ ap (λ (l : List ℕ). l ++ replicate 15 0) (c .before .truncated-h1 .ensures))
 
 pub digest-97-spec : {M : Type 1} → statement M

@@ -6,14 +6,22 @@ use Rattle.block_keys.proofs.keystream.Statement.{statement}
 use Rattle.block_keys.proofs.keystream.Tie as tie
 
 array-share-prefix-bytes : tie.Need-array-share-prefix-bytes
-array-share-prefix-bytes c = handed-room (c .before .before .args .schedule) (c .before .before .args .block) (c .before .block-key .result) (c .before .block-key .ensures)
+array-share-prefix-bytes c =
+    let start = c .before .before in
+    handed-room (start .args .schedule) (start .args .block) (c .before .block-key .result) (c .before .block-key .ensures)
 
 slice-aggregate-new : tie.Need-slice-aggregate-new
-slice-aggregate-new c = handed-count (c .before .before .before .args .schedule) (c .before .before .before .args .block) (c .before .before .block-key .result) (c .before .before .block-key .ensures)
+slice-aggregate-new c =
+    let at-block-key = c .before .before in
+    let start = at-block-key .before in
+    handed-count (start .args .schedule) (start .args .block) (at-block-key .block-key .result) (at-block-key .block-key .ensures)
 
 returns : tie.Need-returns
 returns c =
-    handed-stream (c .before .before .before .before .before .args .schedule) (c .before .before .before .before .before .args .block) (c .before .before .before .before .block-key .result) (c .before .before .before .before .block-key .ensures) (c .before .new .result) (c .before .new .ensures)
+    let at-block-key = c .before .before .before .before in
+    let start = at-block-key .before in
+    handed-stream (start .args .schedule) (start .args .block) (at-block-key .block-key .result) (at-block-key .block-key .ensures) (c .before .new .result)
+    (c .before .new .ensures)
 
 pub keystream-spec : {M : Type 1} → statement M
 keystream-spec =

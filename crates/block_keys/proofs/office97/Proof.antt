@@ -10,11 +10,17 @@ use Rattle.block_keys.proofs.office97.Tie as tie
 
 returns : tie.Need-returns
 unfolding parsed
-returns c = refused-97 (asked (office97 (c .before .before .before .before .before .args .structure .now))) _ (sym (c .before .before .before .parse .ensures) ∙ c .before .refusal .given .1)
+returns c =
+    let at-parse = c .before .before .before in
+    let start = at-parse .before .before in
+    refused-97 (asked (office97 (start .args .structure .now))) _ (sym (at-parse .parse .ensures) ∙ c .before .refusal .given .1)
 
 returns-2 : tie.Need-returns-2
 unfolding parsed
-returns-2 c = read-97 (asked (office97 (c .before .before .before .before .args .structure .now))) (sym (c .before .before .parse .ensures) ∙ c .enum-told .given .1)
+returns-2 c =
+    let at-parse = c .before .before in
+    let start = at-parse .before .before in
+    read-97 (asked (office97 (start .args .structure .now))) (sym (at-parse .parse .ensures) ∙ c .enum-told .given .1)
 
 pub office97-spec : {M : Type 1} → statement M
 office97-spec = tie.close (tie.spec

@@ -21,14 +21,18 @@ loop-holds c = (search needs, refl)
 
 loop-again : tie.Need-loop-again Inv-loop μ-loop
 unfolding agree
-loop-again c = (search needs, rw (add-one (c .before .before .before .loop .i), c .before .before .before .loop .inv .1))
+loop-again c =
+    let at-loop = c .before .before .before in
+    (search needs, rw (add-one (at-loop .loop .i), at-loop .loop .inv .1))
 
 returns : tie.Need-returns Inv-loop μ-loop
 returns c =
+    let start = c .before .before in
+    let args = start .args in
     let l = c .before .loop in
     let h = l .inv .0 in
-    let e : l .i ≡ c .before .before .args .n = search needs in
-    l .inv .1 ∙ ap (agree (c .before .before .args .a .now) (c .before .before .args .b .now)) e
+    let e : l .i ≡ args .n = search needs in
+    l .inv .1 ∙ ap (agree (args .a .now) (args .b .now)) e
 
 pub same-spec : {M : Type 1} → statement M
 same-spec =

@@ -7,10 +7,22 @@ use Rattle.block_keys.proofs.schedule_of.Statement.{statement}
 use Rattle.block_keys.proofs.schedule_of.Tie as tie
 
 returns : tie.Need-returns
-returns c = schedules-97 (c .before .before .before .before .before .before .before .before .before .before .before .before .before .args .lock) _ _ _ _ _ _ _ (c .before .before .before .before .before .enum-told .given .1) (rw (c .before .before .before .before .before .before .before .before .copy-part .ensures) at (c .before .before .before .digest-97 .ensures)) (c .with-digest .ensures)
+returns c =
+    let at-digest-97 = c .before .before .before in
+    let at-enum-told = at-digest-97 .before .before in
+    let at-copy-part = at-enum-told .before .before .before in
+    let start = at-copy-part .before .before .before .before .before in
+    schedules-97 (start .args .lock) _ _ _ _ _ _ _ (at-enum-told .enum-told .given .1)
+    (rw (at-copy-part .copy-part .ensures) at (at-digest-97 .digest-97 .ensures)) (c .with-digest .ensures)
 
 returns-2 : tie.Need-returns-2
-returns-2 c = schedules-api (c .before .before .before .before .before .before .before .before .before .before .before .before .before .args .lock) _ _ _ _ _ _ _ (c .before .before .before .before .before .enum-told2 .given .1) (rw (c .before .before .before .before .before .before .before .before .copy-part .ensures) at (c .before .before .before .digest-api .ensures)) (c .with-digest2 .ensures)
+returns-2 c =
+    let at-digest-api = c .before .before .before in
+    let at-enum-told2 = at-digest-api .before .before in
+    let at-copy-part = at-enum-told2 .before .before .before in
+    let start = at-copy-part .before .before .before .before .before in
+    schedules-api (start .args .lock) _ _ _ _ _ _ _ (at-enum-told2 .enum-told2 .given .1)
+    (rw (at-copy-part .copy-part .ensures) at (at-digest-api .digest-api .ensures)) (c .with-digest2 .ensures)
 
 pub schedule-of-spec : {M : Type 1} → statement M
 schedule-of-spec =

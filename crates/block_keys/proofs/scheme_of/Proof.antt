@@ -7,42 +7,93 @@ use Rattle.block_keys.proofs.scheme_of.Statement.{statement}
 use Rattle.block_keys.proofs.scheme_of.Tie as tie
 
 returns : tie.Need-returns
-returns c = no-major (c .before .before .before .before .args .structure .now) (sym (c .enum-told .given .1) ∙ c .before .before .le16 .ensures)
+returns c =
+    let at-le16 = c .before .before in
+    let start = at-le16 .before .before in
+    no-major (start .args .structure .now) (sym (c .enum-told .given .1) ∙ at-le16 .le16 .ensures)
 
 returns-2 : tie.Need-returns-2
-returns-2 c = no-minor (c .before .before .before .before .before .before .before .before .args .structure .now) (sym (c .enum-told2 .given .1) ∙ c .before .before .le162 .ensures)
+returns-2 c =
+    let at-le162 = c .before .before in
+    let start = at-le162 .before .before .before .before .before .before in
+    no-minor (start .args .structure .now) (sym (c .enum-told2 .given .1) ∙ at-le162 .le162 .ensures)
 
 returns-3 : tie.Need-returns-3
 returns-3 c =
+    let at-match3 = c .before .before in
+    let at-minor = at-match3 .before .before in
+    let at-le162 = at-minor .before .before in
+    let at-major = at-le162 .before .before in
+    let at-le16 = at-major .before .before in
+    let start = at-le16 .before .before in
     c .office97 .ensures
-    ∙ version-97 (c .before .before .before .before .before .before .before .before .before .before .before .before .args .structure .now) _ _ (sym (c .before .before .before .before .before .before .before .before .major .given .1) ∙ c .before .before .before .before .before .before .before .before .before .before .le16 .ensures) (sym (c .before .before .before .before .minor .given .1) ∙ c .before .before .before .before .before .before .le162 .ensures)
-    (rw (c .before .before .match3 .keys1, c .before .match4 .keys1)) (rw (c .before .before .match3 .keys1))
+    ∙ version-97 (start .args .structure .now) _ _ (sym (at-major .major .given .1) ∙ at-le16 .le16 .ensures) (sym (at-minor .minor .given .1) ∙ at-le162 .le162 .ensures)
+    (rw (at-match3 .match3 .keys1, c .before .match4 .keys1)) (rw (at-match3 .match3 .keys1))
 
 returns-4 : tie.Need-returns-4
 returns-4 c =
-    other-version (c .before .before .before .before .before .before .before .before .before .before .before .args .structure .now) _ _ (sym (c .before .before .before .before .before .before .before .major .given .1) ∙ c .before .before .before .before .before .before .before .before .before .le16 .ensures) (sym (c .before .before .before .minor .given .1) ∙ c .before .before .before .before .before .le162 .ensures)
-    (one-other (c .before .before .before .before .before .before .before .major .given .0 .0) (c .before .before .before .minor .given .0 .0) (c .before .match3 .keys1) (c .match4 .rest .1)) (rw (c .before .match3 .keys1))
+    let at-minor = c .before .before .before in
+    let at-le162 = at-minor .before .before in
+    let at-major = at-le162 .before .before in
+    let at-le16 = at-major .before .before in
+    let start = at-le16 .before .before in
+    other-version (start .args .structure .now) _ _ (sym (at-major .major .given .1) ∙ at-le16 .le16 .ensures)
+    (sym (at-minor .minor .given .1) ∙ at-le162 .le162 .ensures)
+    (one-other (at-major .major .given .0 .0) (at-minor .minor .given .0 .0) (c .before .match3 .keys1) (c .match4 .rest .1)) (rw (c .before .match3 .keys1))
 
 returns-5 : tie.Need-returns-5
 returns-5 c =
+    let at-if2 = c .before .before in
+    let at-if1 = at-if2 .before in
+    let at-match3 = at-if1 .before in
+    let at-minor = at-match3 .before .before in
+    let at-le162 = at-minor .before .before in
+    let at-major = at-le162 .before .before in
+    let at-le16 = at-major .before .before in
+    let start = at-le16 .before .before in
     c .crypto-api .ensures
-    ∙ version-api (c .before .before .before .before .before .before .before .before .before .before .before .before .before .before .args .structure .now) _ _ (sym (c .before .before .before .before .before .before .before .before .before .before .major .given .1) ∙ c .before .before .before .before .before .before .before .before .before .before .before .before .le16 .ensures) (sym (c .before .before .before .before .before .before .minor .given .1) ∙ c .before .before .before .before .before .before .before .before .le162 .ensures)
-    (not-one (c .before .before .before .before .before .before .before .before .before .before .major .given .0 .0) (c .before .before .before .before .before .before .minor .given .0 .0) (c .before .before .before .before .match3 .rest .1)) (api (c .before .before .before .before .before .before .before .before .before .before .major .given .0 .0) (c .before .before .before .before .before .before .minor .given .0 .0) (c .before .before .before .before .match3 .rest .1) (c .before .before .before .if1 .left) (c .before .before .if2 .taken) (c .before .match5 .keys1))
+    ∙ version-api (start .args .structure .now) _ _ (sym (at-major .major .given .1) ∙ at-le16 .le16 .ensures)
+    (sym (at-minor .minor .given .1) ∙ at-le162 .le162 .ensures)
+    (not-one (at-major .major .given .0 .0) (at-minor .minor .given .0 .0) (at-match3 .match3 .rest .1))
+    (api (at-major .major .given .0 .0) (at-minor .minor .given .0 .0) (at-match3 .match3 .rest .1) (at-if1 .if1 .left) (at-if2 .if2 .taken) (c .before .match5 .keys1))
 
 returns-6 : tie.Need-returns-6
 returns-6 c =
-    other-version (c .before .before .before .before .before .before .before .before .before .before .before .before .before .args .structure .now) _ _ (sym (c .before .before .before .before .before .before .before .before .before .major .given .1) ∙ c .before .before .before .before .before .before .before .before .before .before .before .le16 .ensures) (sym (c .before .before .before .before .before .minor .given .1) ∙ c .before .before .before .before .before .before .before .le162 .ensures)
-    (not-one (c .before .before .before .before .before .before .before .before .before .major .given .0 .0) (c .before .before .before .before .before .minor .given .0 .0) (c .before .before .before .match3 .rest .1)) (api-other (c .before .before .before .before .before .before .before .before .before .major .given .0 .0) (c .before .before .before .before .before .minor .given .0 .0) (c .match5 .rest .1))
+    let at-match3 = c .before .before .before in
+    let at-minor = at-match3 .before .before in
+    let at-le162 = at-minor .before .before in
+    let at-major = at-le162 .before .before in
+    let at-le16 = at-major .before .before in
+    let start = at-le16 .before .before in
+    other-version (start .args .structure .now) _ _ (sym (at-major .major .given .1) ∙ at-le16 .le16 .ensures)
+    (sym (at-minor .minor .given .1) ∙ at-le162 .le162 .ensures)
+    (not-one (at-major .major .given .0 .0) (at-minor .minor .given .0 .0) (at-match3 .match3 .rest .1))
+    (api-other (at-major .major .given .0 .0) (at-minor .minor .given .0 .0) (c .match5 .rest .1))
 
 returns-7 : tie.Need-returns-7
 returns-7 c =
-    other-version (c .before .before .before .before .before .before .before .before .before .before .before .args .structure .now) _ _ (sym (c .before .before .before .before .before .before .before .major .given .1) ∙ c .before .before .before .before .before .before .before .before .before .le16 .ensures) (sym (c .before .before .before .minor .given .1) ∙ c .before .before .before .before .before .le162 .ensures)
-    (not-one (c .before .before .before .before .before .before .before .major .given .0 .0) (c .before .before .before .minor .given .0 .0) (c .before .match3 .rest .1)) (low (c .before .before .before .before .before .before .before .major .given .0 .0) (c .before .before .before .minor .given .0 .0) (c .if1 .taken))
+    let at-minor = c .before .before .before in
+    let at-le162 = at-minor .before .before in
+    let at-major = at-le162 .before .before in
+    let at-le16 = at-major .before .before in
+    let start = at-le16 .before .before in
+    other-version (start .args .structure .now) _ _ (sym (at-major .major .given .1) ∙ at-le16 .le16 .ensures)
+    (sym (at-minor .minor .given .1) ∙ at-le162 .le162 .ensures)
+    (not-one (at-major .major .given .0 .0) (at-minor .minor .given .0 .0) (c .before .match3 .rest .1))
+    (low (at-major .major .given .0 .0) (at-minor .minor .given .0 .0) (c .if1 .taken))
 
 returns-8 : tie.Need-returns-8
 returns-8 c =
-    other-version (c .before .before .before .before .before .before .before .before .before .before .before .before .args .structure .now) _ _ (sym (c .before .before .before .before .before .before .before .before .major .given .1) ∙ c .before .before .before .before .before .before .before .before .before .before .le16 .ensures) (sym (c .before .before .before .before .minor .given .1) ∙ c .before .before .before .before .before .before .le162 .ensures)
-    (not-one (c .before .before .before .before .before .before .before .before .major .given .0 .0) (c .before .before .before .before .minor .given .0 .0) (c .before .before .match3 .rest .1)) (high (c .before .before .before .before .before .before .before .before .major .given .0 .0) (c .before .before .before .before .minor .given .0 .0) (c .if2 .left))
+    let at-match3 = c .before .before in
+    let at-minor = at-match3 .before .before in
+    let at-le162 = at-minor .before .before in
+    let at-major = at-le162 .before .before in
+    let at-le16 = at-major .before .before in
+    let start = at-le16 .before .before in
+    other-version (start .args .structure .now) _ _ (sym (at-major .major .given .1) ∙ at-le16 .le16 .ensures)
+    (sym (at-minor .minor .given .1) ∙ at-le162 .le162 .ensures)
+    (not-one (at-major .major .given .0 .0) (at-minor .minor .given .0 .0) (at-match3 .match3 .rest .1))
+    (high (at-major .major .given .0 .0) (at-minor .minor .given .0 .0) (c .if2 .left))
 
 pub scheme-of-spec : {M : Type 1} → statement M
 scheme-of-spec =

@@ -6,7 +6,10 @@ use Rattle.block_keys.proofs.verify.Statement.{statement}
 use Rattle.block_keys.proofs.verify.Tie as tie
 
 returns : tie.Need-returns
-returns c = c .verify-password .ensures ∙ rw (c .before .before .before .before .before .copy-part .ensures, c .before .before .copy-part2 .ensures)
+returns c =
+    let at-copy-part2 = c .before .before in
+    let at-copy-part = at-copy-part2 .before .before .before in
+    c .verify-password .ensures ∙ rw (at-copy-part .copy-part .ensures, at-copy-part2 .copy-part2 .ensures)
 
 pub verify-spec : {M : Type 1} → statement M
 verify-spec =

@@ -17,15 +17,31 @@ twenty c = search needs
 
 returns : tie.Need-returns
 returns c =
-    let e = c .before .before .before .before .before .enum-told .given .1 in
-    checked (c .before .before .before .before .before .before .before .before .before .before .before .before .before .before .before .before .args .schedule) (c .before .before .before .before .before .before .before .before .before .before .before .before .before .before .before .before .args .t2) (c .before .before .before .before .before .before .before .before .before .before .before .before .before .before .before .before .args .t3) (sixteen (c .before .before .before .before .before .before .before .before .before .before .before .before .before .before .before .before)) (twenty (c .before .before .before .before .before .before .before .before .before .before .before .before .before .before .before .before)) _ _ _ _ _ _ _ (c .before .before .before .before .before .before .before .before .before .before .before .before .before .before .before .keystream .ensures) (c .before .before .before .before .before .before .before .before .before .before .before .before .apply .ensures) (c .before .before .before .before .before .before .before .before .apply2 .ensures) refl refl 16 _ _
-    (sym (ap digestLen e)) (omega arith) (digest-by-97 (c .before .before .before .before .before .before .before .before .before .before .before .before .before .before .before .before .args .schedule .kind) _ _ e (c .before .before .before .digest .ensures)) (c .same .ensures)
+    let at-digest = c .before .before .before in
+    let at-enum-told = at-digest .before .before in
+    let at-apply2 = at-enum-told .before .before .before in
+    let at-apply = at-apply2 .before .before .before .before in
+    let at-keystream = at-apply .before .before .before in
+    let start = at-keystream .before in
+    let args = start .args in
+    let e = at-enum-told .enum-told .given .1 in
+    checked (args .schedule) (args .t2) (args .t3) (sixteen start) (twenty start) _ _ _ _ _ _ _ (at-keystream .keystream .ensures) (at-apply .apply .ensures)
+    (at-apply2 .apply2 .ensures) refl refl 16 _ _
+    (sym (ap digestLen e)) (omega arith) (digest-by-97 (args .schedule .kind) _ _ e (at-digest .digest .ensures)) (c .same .ensures)
 
 returns-2 : tie.Need-returns-2
 returns-2 c =
-    let e = c .before .before .before .before .before .enum-told2 .given .1 in
-    checked (c .before .before .before .before .before .before .before .before .before .before .before .before .before .before .before .before .args .schedule) (c .before .before .before .before .before .before .before .before .before .before .before .before .before .before .before .before .args .t2) (c .before .before .before .before .before .before .before .before .before .before .before .before .before .before .before .before .args .t3) (sixteen (c .before .before .before .before .before .before .before .before .before .before .before .before .before .before .before .before)) (twenty (c .before .before .before .before .before .before .before .before .before .before .before .before .before .before .before .before)) _ _ _ _ _ _ _ (c .before .before .before .before .before .before .before .before .before .before .before .before .before .before .before .keystream .ensures) (c .before .before .before .before .before .before .before .before .before .before .before .before .apply .ensures) (c .before .before .before .before .before .before .before .before .apply2 .ensures) refl refl 20 _ _
-    (sym (ap digestLen e)) (omega arith) (digest-by-api (c .before .before .before .before .before .before .before .before .before .before .before .before .before .before .before .before .args .schedule .kind) _ _ e (c .before .before .before .digest3 .ensures)) (c .same2 .ensures)
+    let at-digest3 = c .before .before .before in
+    let at-enum-told2 = at-digest3 .before .before in
+    let at-apply2 = at-enum-told2 .before .before .before in
+    let at-apply = at-apply2 .before .before .before .before in
+    let at-keystream = at-apply .before .before .before in
+    let start = at-keystream .before in
+    let args = start .args in
+    let e = at-enum-told2 .enum-told2 .given .1 in
+    checked (args .schedule) (args .t2) (args .t3) (sixteen start) (twenty start) _ _ _ _ _ _ _ (at-keystream .keystream .ensures) (at-apply .apply .ensures)
+    (at-apply2 .apply2 .ensures) refl refl 20 _ _
+    (sym (ap digestLen e)) (omega arith) (digest-by-api (args .schedule .kind) _ _ e (at-digest3 .digest3 .ensures)) (c .same2 .ensures)
 
 pub verify-password-spec : {M : Type 1} → statement M
 verify-password-spec =

@@ -6,7 +6,12 @@ use Rattle.excel97.proofs.blank.Statement.{statement}
 use Rattle.excel97.proofs.blank.Tie as tie
 
 returns : tie.Need-returns
-returns c = blanks (c .before .before .before .before .before .before .before .before .before .args .at) (c .before .before .before .before .before .before .before .before .before .args .len) (c .before .before .before .before .before .before .before .before .before .args .output .now) _ _ (c .before .before .before .before .before .before .zero .ensures) (c .before .before .zero2 .ensures)
+returns c =
+    let at-zero2 = c .before .before in
+    let at-zero = at-zero2 .before .before .before .before in
+    let start = at-zero .before .before .before in
+    let args = start .args in
+    blanks (args .at) (args .len) (args .output .now) _ _ (at-zero .zero .ensures) (at-zero2 .zero2 .ensures)
 
 pub blank-spec : {M : Type 1} → statement M
 blank-spec =

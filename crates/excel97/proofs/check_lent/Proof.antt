@@ -20,26 +20,46 @@ returns-2 c = ap checkedOf (past _ (le-leb _ _ (c .before .before .if1 .left)) (
 returns-3 : tie.Need-returns-3
 unfolding asked lent
 returns-3 c =
+    let at-well-formed = c .before .before in
+    let at-if1 = at-well-formed .before in
     ap checkedOf
-    (past _ (le-leb _ _ (c .before .before .before .if1 .left)) (past _ (sym (c .before .before .well-formed .ensures) ∙ not-false _ (c .before .if2 .left)) (refused _ (lt-leb _ _ (c .if3 .taken)))))
+    (past _ (le-leb _ _ (at-if1 .if1 .left))
+    (past _ (sym (at-well-formed .well-formed .ensures) ∙ not-false _ (c .before .if2 .left)) (refused _ (lt-leb _ _ (c .if3 .taken)))))
 
 returns-4 : tie.Need-returns-4
 unfolding asked lent
 returns-4 c =
+    let at-if2 = c .before .before in
+    let at-well-formed = at-if2 .before in
+    let at-if1 = at-well-formed .before in
     ap checkedOf
-    (past _ (le-leb _ _ (c .before .before .before .before .if1 .left)) (past _ (sym (c .before .before .before .well-formed .ensures) ∙ not-false _ (c .before .before .if2 .left)) (past _ (le-leb _ _ (c .before .if3 .left)) (refused _ (lt-leb _ _ (c .if4 .taken))))))
+    (past _ (le-leb _ _ (at-if1 .if1 .left))
+    (past _ (sym (at-well-formed .well-formed .ensures) ∙ not-false _ (at-if2 .if2 .left))
+    (past _ (le-leb _ _ (c .before .if3 .left)) (refused _ (lt-leb _ _ (c .if4 .taken))))))
 
 returns-5 : tie.Need-returns-5
 unfolding asked lent
 returns-5 c =
+    let at-if3 = c .before .before in
+    let at-if2 = at-if3 .before in
+    let at-well-formed = at-if2 .before in
+    let at-if1 = at-well-formed .before in
     ap checkedOf
-    (past _ (le-leb _ _ (c .before .before .before .before .before .if1 .left)) (past _ (sym (c .before .before .before .before .well-formed .ensures) ∙ not-false _ (c .before .before .before .if2 .left)) (past _ (le-leb _ _ (c .before .before .if3 .left)) (past _ (le-leb _ _ (c .before .if4 .left)) (refused _ (lt-leb _ _ (c .if5 .taken)))))))
+    (past _ (le-leb _ _ (at-if1 .if1 .left))
+    (past _ (sym (at-well-formed .well-formed .ensures) ∙ not-false _ (at-if2 .if2 .left))
+    (past _ (le-leb _ _ (at-if3 .if3 .left)) (past _ (le-leb _ _ (c .before .if4 .left)) (refused _ (lt-leb _ _ (c .if5 .taken)))))))
 
 returns-6 : tie.Need-returns-6
 unfolding asked lent
 returns-6 c =
+    let at-if3 = c .before .before in
+    let at-if2 = at-if3 .before in
+    let at-well-formed = at-if2 .before in
+    let at-if1 = at-well-formed .before in
     ap checkedOf
-    (past _ (le-leb _ _ (c .before .before .before .before .before .if1 .left)) (past _ (sym (c .before .before .before .before .well-formed .ensures) ∙ not-false _ (c .before .before .before .if2 .left)) (past _ (le-leb _ _ (c .before .before .if3 .left)) (past _ (le-leb _ _ (c .before .if4 .left)) (past _ (le-leb _ _ (c .if5 .left)) refl)))))
+    (past _ (le-leb _ _ (at-if1 .if1 .left))
+    (past _ (sym (at-well-formed .well-formed .ensures) ∙ not-false _ (at-if2 .if2 .left))
+    (past _ (le-leb _ _ (at-if3 .if3 .left)) (past _ (le-leb _ _ (c .before .if4 .left)) (past _ (le-leb _ _ (c .if5 .left)) refl)))))
 
 pub check-lent-spec : {M : Type 1} → statement M
 check-lent-spec =

@@ -9,10 +9,16 @@ use Rattle.excel97.proofs.field.Statement.{statement}
 use Rattle.excel97.proofs.field.Tie as tie
 
 returns : tie.Need-returns
-returns c = field-value (c .before .before .before .before .before .args .body .now) (c .before .before .before .before .before .args .at) _ (sym (c .before .value .given .1) ∙ c .before .before .before .le16 .ensures)
+returns c =
+    let at-le16 = c .before .before .before in
+    let start = at-le16 .before .before in
+    field-value (start .args .body .now) (start .args .at) _ (sym (c .before .value .given .1) ∙ at-le16 .le16 .ensures)
 
 returns-2 : tie.Need-returns-2
-returns-2 c = absurd (no _ _ (c .before .before .before .before .pre) (field-cut (c .before .before .before .before .args .body .now) (c .before .before .before .before .args .at) (sym (c .enum-told .given .1) ∙ c .before .before .le16 .ensures)))
+returns-2 c =
+    let at-le16 = c .before .before in
+    let start = at-le16 .before .before in
+    absurd (no _ _ (start .pre) (field-cut (start .args .body .now) (start .args .at) (sym (c .enum-told .given .1) ∙ at-le16 .le16 .ensures)))
   where
     no : (a n : ℕ) → a + 2 ≤ n → n < a + 2 → ⊥
     no a n h k = omega arith

@@ -15,25 +15,52 @@ use Rattle.excel97.proofs.find_lock.Statement.{statement}
 use Rattle.excel97.proofs.find_lock.Tie as tie
 
 returns : tie.Need-returns
-returns c = no-type (c .before .before .before .before .args .body .now) (sym (c .enum-told .given .1) ∙ c .before .before .le16 .ensures)
+returns c =
+    let at-le16 = c .before .before in
+    let start = at-le16 .before .before in
+    no-type (start .args .body .now) (sym (c .enum-told .given .1) ∙ at-le16 .le16 .ensures)
 
 sub-t10 : tie.Need-sub-t10
-sub-t10 c = le16-within (c .before .before .before .before .before .before .before .args .body .now) 0 _ (sym (c .before .before .before .kind .given .1) ∙ c .before .before .before .before .before .le16 .ensures)
+sub-t10 c =
+    let at-kind = c .before .before .before in
+    let at-le16 = at-kind .before .before in
+    let start = at-le16 .before .before in
+    le16-within (start .args .body .now) 0 _ (sym (at-kind .kind .given .1) ∙ at-le16 .le16 .ensures)
 
 returns-2 : tie.Need-returns-2
-returns-2 c = xor-cut (c .before .before .before .before .before .before .before .args .body .now) _ (sym (c .before .before .before .kind .given .1) ∙ c .before .before .before .before .before .le16 .ensures) (c .before .if1 .taken) (c .if2 .taken)
+returns-2 c =
+    let at-kind = c .before .before .before in
+    let at-le16 = at-kind .before .before in
+    let start = at-le16 .before .before in
+    xor-cut (start .args .body .now) _ (sym (at-kind .kind .given .1) ∙ at-le16 .le16 .ensures) (c .before .if1 .taken) (c .if2 .taken)
 
 returns-3 : tie.Need-returns-3
-returns-3 c = xor-lock (c .before .before .before .before .before .before .before .args .body .now) _ (sym (c .before .before .before .kind .given .1) ∙ c .before .before .before .before .before .le16 .ensures) (c .before .if1 .taken) (c .if2 .left)
+returns-3 c =
+    let at-kind = c .before .before .before in
+    let at-le16 = at-kind .before .before in
+    let start = at-le16 .before .before in
+    xor-lock (start .args .body .now) _ (sym (at-kind .kind .given .1) ∙ at-le16 .le16 .ensures) (c .before .if1 .taken) (c .if2 .left)
 
 returns-4 : tie.Need-returns-4
-returns-4 c = other-type (c .before .before .before .before .before .before .before .args .body .now) _ (sym (c .before .before .before .kind .given .1) ∙ c .before .before .before .before .before .le16 .ensures) (c .if3 .taken)
+returns-4 c =
+    let at-kind = c .before .before .before in
+    let at-le16 = at-kind .before .before in
+    let start = at-le16 .before .before in
+    other-type (start .args .body .now) _ (sym (at-kind .kind .given .1) ∙ at-le16 .le16 .ensures) (c .if3 .taken)
 
 sub-scheme-of : tie.Need-sub-scheme-of
-sub-scheme-of c = le16-within (c .before .before .before .before .before .before .before .args .body .now) 0 _ (sym (c .before .before .before .kind .given .1) ∙ c .before .before .before .before .before .le16 .ensures)
+sub-scheme-of c =
+    let at-kind = c .before .before .before in
+    let at-le16 = at-kind .before .before in
+    let start = at-le16 .before .before in
+    le16-within (start .args .body .now) 0 _ (sym (at-kind .kind .given .1) ∙ at-le16 .le16 .ensures)
 
 part-scheme-of-start : tie.Need-part-scheme-of-start
-part-scheme-of-start c = le16-within (c .before .before .before .before .before .before .before .args .body .now) 0 _ (sym (c .before .before .before .kind .given .1) ∙ c .before .before .before .before .before .le16 .ensures)
+part-scheme-of-start c =
+    let at-kind = c .before .before .before in
+    let at-le16 = at-kind .before .before in
+    let start = at-le16 .before .before in
+    le16-within (start .args .body .now) 0 _ (sym (at-kind .kind .given .1) ∙ at-le16 .le16 .ensures)
 
 -- a part up to the end
 behind : (xs : List ℕ) (n : ℕ) → take (length xs - n) (drop n xs) ≡ drop n xs
@@ -45,12 +72,26 @@ one t h k = omega arith
 returns-5 : tie.Need-returns-5
 unfolding schemeOf
 returns-5 c =
-    rc4-refused (c .before .before .before .before .before .before .before .before .before .before .before .before .args .body .now) _ (sym (c .before .before .before .before .before .before .before .before .kind .given .1) ∙ c .before .before .before .before .before .before .before .before .before .before .le16 .ensures) (one _ (c .before .before .before .before .before .before .if1 .left) (c .before .before .before .before .before .if3 .left)) _ (sym (c .before .before .before .scheme-of .ensures ∙ ap schemeOf (behind (c .before .before .before .before .before .before .before .before .before .before .before .before .args .body .now) 2)) ∙ c .before .refusal .given .1)
+    let at-scheme-of = c .before .before .before in
+    let at-if3 = at-scheme-of .before .before in
+    let at-if1 = at-if3 .before in
+    let at-kind = at-if1 .before .before in
+    let at-le16 = at-kind .before .before in
+    let start = at-le16 .before .before in
+    rc4-refused (start .args .body .now) _ (sym (at-kind .kind .given .1) ∙ at-le16 .le16 .ensures) (one _ (at-if1 .if1 .left) (at-if3 .if3 .left)) _
+    (sym (at-scheme-of .scheme-of .ensures ∙ ap schemeOf (behind (start .args .body .now) 2)) ∙ c .before .refusal .given .1)
 
 returns-6 : tie.Need-returns-6
 unfolding schemeOf
 returns-6 c =
-    rc4-locked (c .before .before .before .before .before .before .before .before .before .before .before .before .args .body .now) _ (sym (c .before .before .before .before .before .before .before .before .kind .given .1) ∙ c .before .before .before .before .before .before .before .before .before .before .le16 .ensures) (one _ (c .before .before .before .before .before .before .if1 .left) (c .before .before .before .before .before .if3 .left)) _ (sym (c .before .before .before .scheme-of .ensures ∙ ap schemeOf (behind (c .before .before .before .before .before .before .before .before .before .before .before .before .args .body .now) 2)) ∙ c .before .rc4-lock .given .1)
+    let at-scheme-of = c .before .before .before in
+    let at-if3 = at-scheme-of .before .before in
+    let at-if1 = at-if3 .before in
+    let at-kind = at-if1 .before .before in
+    let at-le16 = at-kind .before .before in
+    let start = at-le16 .before .before in
+    rc4-locked (start .args .body .now) _ (sym (at-kind .kind .given .1) ∙ at-le16 .le16 .ensures) (one _ (at-if1 .if1 .left) (at-if3 .if3 .left)) _
+    (sym (at-scheme-of .scheme-of .ensures ∙ ap schemeOf (behind (start .args .body .now) 2)) ∙ c .before .rc4-lock .given .1)
 
 pub find-lock-spec : {M : Type 1} → statement M
 find-lock-spec =

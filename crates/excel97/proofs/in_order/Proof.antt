@@ -8,20 +8,42 @@ use Rattle.excel97.proofs.in_order.Statement.{statement}
 use Rattle.excel97.proofs.in_order.Tie as tie
 
 returns : tie.Need-returns
-returns c = no-bof (c .before .before .before .args .stream .now) (c .before .before .before .args .records) (sym (c .before .starts-bof .ensures) ∙ not-true _ (c .if1 .taken))
+returns c =
+    let start = c .before .before .before in
+    no-bof (start .args .stream .now) (start .args .records) (sym (c .before .starts-bof .ensures) ∙ not-true _ (c .if1 .taken))
 
 returns-2 : tie.Need-returns-2
-returns-2 c = not-encrypted (c .before .before .before .before .before .before .args .stream .now) (c .before .before .before .before .before .before .args .records) (sym (c .before .before .before .before .starts-bof .ensures) ∙ not-false _ (c .before .before .before .if1 .left)) (sym (c .before .before .find-filepass .ensures) ∙ c .enum-told .given .1)
+returns-2 c =
+    let at-find-filepass = c .before .before in
+    let at-if1 = at-find-filepass .before in
+    let at-starts-bof = at-if1 .before in
+    let start = at-starts-bof .before .before in
+    not-encrypted (start .args .stream .now) (start .args .records) (sym (at-starts-bof .starts-bof .ensures) ∙ not-false _ (at-if1 .if1 .left))
+    (sym (at-find-filepass .find-filepass .ensures) ∙ c .enum-told .given .1)
 
 returns-3 : tie.Need-returns-3
 returns-3 c =
-    out-of-order (c .before .before .before .before .before .before .before .before .before .before .before .args .stream .now) (c .before .before .before .before .before .before .before .before .before .before .before .args .records) (sym (c .before .before .before .before .before .before .before .before .before .starts-bof .ensures) ∙ not-false _ (c .before .before .before .before .before .before .before .before .if1 .left)) _ _ (sym (c .before .before .before .before .before .before .before .find-filepass .ensures) ∙ c .before .before .before .before .before .at .given .1) _
-    (sym (c .before .before .before .find-other .ensures) ∙ c .before .id .given .1)
+    let at-find-other = c .before .before .before in
+    let at-at = at-find-other .before .before in
+    let at-find-filepass = at-at .before .before in
+    let at-if1 = at-find-filepass .before in
+    let at-starts-bof = at-if1 .before in
+    let start = at-starts-bof .before .before in
+    out-of-order (start .args .stream .now) (start .args .records) (sym (at-starts-bof .starts-bof .ensures) ∙ not-false _ (at-if1 .if1 .left)) _ _
+    (sym (at-find-filepass .find-filepass .ensures) ∙ at-at .at .given .1) _
+    (sym (at-find-other .find-other .ensures) ∙ c .before .id .given .1)
 
 returns-4 : tie.Need-returns-4
 returns-4 c =
-    all-in-order (c .before .before .before .before .before .before .before .before .before .before .args .stream .now) (c .before .before .before .before .before .before .before .before .before .before .args .records) (sym (c .before .before .before .before .before .before .before .before .starts-bof .ensures) ∙ not-false _ (c .before .before .before .before .before .before .before .if1 .left)) _ _ (sym (c .before .before .before .before .before .before .find-filepass .ensures) ∙ c .before .before .before .before .at .given .1)
-    (sym (c .before .before .find-other .ensures) ∙ c .enum-told2 .given .1)
+    let at-find-other = c .before .before in
+    let at-at = at-find-other .before .before in
+    let at-find-filepass = at-at .before .before in
+    let at-if1 = at-find-filepass .before in
+    let at-starts-bof = at-if1 .before in
+    let start = at-starts-bof .before .before in
+    all-in-order (start .args .stream .now) (start .args .records) (sym (at-starts-bof .starts-bof .ensures) ∙ not-false _ (at-if1 .if1 .left)) _ _
+    (sym (at-find-filepass .find-filepass .ensures) ∙ at-at .at .given .1)
+    (sym (at-find-other .find-other .ensures) ∙ c .enum-told2 .given .1)
 
 pub in-order-spec : {M : Type 1} → statement M
 in-order-spec =

@@ -10,19 +10,36 @@ use Rattle.excel97.proofs.open.Tie as tie
 
 open-stream-requires : tie.Need-open-stream-requires
 open-stream-requires c κs =
-    lent-tells (c .before .before .before .before .before .before .before .before .before .args .password .now) (length (c .before .before .before .before .before .before .before .before .before .args .stream .now)) (length (c .before .before .before .before .before .before .before .before .before .args .scratch .now)) (length (c .before .before .before .before .before .before .before .before .before .args .output .now))
-    (lent-fine (asked (lent (c .before .before .before .before .before .before .before .before .before .args .password .now) (length (c .before .before .before .before .before .before .before .before .before .args .stream .now)) (length (c .before .before .before .before .before .before .before .before .before .args .scratch .now)) (length (c .before .before .before .before .before .before .before .before .before .args .output .now)))) (sym (c .before .before .before .before .check-lent .ensures) ∙ c .before .before .enum-told .given .1))
+    let at-enum-told = c .before .before in
+    let at-check-lent = at-enum-told .before .before in
+    let start = at-check-lent .before .before .before .before .before in
+    let args = start .args in
+    lent-tells (args .password .now) (length (args .stream .now)) (length (args .scratch .now)) (length (args .output .now))
+    (lent-fine (asked (lent (args .password .now) (length (args .stream .now)) (length (args .scratch .now)) (length (args .output .now))))
+    (sym (at-check-lent .check-lent .ensures) ∙ at-enum-told .enum-told .given .1))
 
 returns : tie.Need-returns
 returns c =
-    refused-lent (c .before .before .before .before .before .before .before .before .args .stream .now) (c .before .before .before .before .before .before .before .before .args .password .now) (c .before .before .before .before .before .before .before .before .args .scratch .now) (c .before .before .before .before .before .before .before .before .args .output .now) _
-    (lent-refused (asked (lent (c .before .before .before .before .before .before .before .before .args .password .now) (length (c .before .before .before .before .before .before .before .before .args .stream .now)) (length (c .before .before .before .before .before .before .before .before .args .scratch .now)) (length (c .before .before .before .before .before .before .before .before .args .output .now)))) _ (sym (c .before .before .before .check-lent .ensures) ∙ c .before .refusal .given .1))
+    let at-check-lent = c .before .before .before in
+    let start = at-check-lent .before .before .before .before .before in
+    let args = start .args in
+    refused-lent (args .stream .now) (args .password .now) (args .scratch .now) (args .output .now) _
+    (lent-refused (asked (lent (args .password .now) (length (args .stream .now)) (length (args .scratch .now)) (length (args .output .now)))) _
+    (sym (at-check-lent .check-lent .ensures) ∙ c .before .refusal .given .1))
 
 returns-2 : tie.Need-returns-2
 returns-2 c =
-    let e = lent-fine (asked (lent (c .before .before .before .before .before .before .before .before .before .before .before .before .before .before .before .before .before .before .args .password .now) (length (c .before .before .before .before .before .before .before .before .before .before .before .before .before .before .before .before .before .before .args .stream .now)) (length (c .before .before .before .before .before .before .before .before .before .before .before .before .before .before .before .before .before .before .args .scratch .now)) (length (c .before .before .before .before .before .before .before .before .before .before .before .before .before .before .before .before .before .before .args .output .now)))) (sym (c .before .before .before .before .before .before .before .before .before .before .before .before .before .check-lent .ensures) ∙ c .before .before .before .before .before .before .before .before .before .before .before .enum-told .given .1) in
-    let t = lent-tells (c .before .before .before .before .before .before .before .before .before .before .before .before .before .before .before .before .before .before .args .password .now) (length (c .before .before .before .before .before .before .before .before .before .before .before .before .before .before .before .before .before .before .args .stream .now)) (length (c .before .before .before .before .before .before .before .before .before .before .before .before .before .before .before .before .before .before .args .scratch .now)) (length (c .before .before .before .before .before .before .before .before .before .before .before .before .before .before .before .before .before .before .args .output .now)) e in
-    settled-all (c .before .before .before .before .before .before .before .before .before .before .before .before .before .before .before .before .before .before .args .stream .now) (c .before .before .before .before .before .before .before .before .before .before .before .before .before .before .before .before .before .before .args .password .now) (c .before .before .before .before .before .before .before .before .before .before .before .before .before .before .before .before .before .before .args .scratch .now) (c .before .before .before .before .before .before .before .before .before .before .before .before .before .before .before .before .before .before .args .output .now) e _ _ _ _ (c .before .before .before .before .before .before .before .before .open-stream .ensures) (rw (c .before .before .before .before .before .before .before .before .open-stream .ensures .same) (t .1)) (c .before .before .wipe .ensures .1)
+    let at-wipe = c .before .before in
+    let at-open-stream = at-wipe .before .before .before .before .before .before in
+    let at-enum-told = at-open-stream .before .before .before in
+    let at-check-lent = at-enum-told .before .before in
+    let start = at-check-lent .before .before .before .before .before in
+    let args = start .args in
+    let e = lent-fine (asked (lent (args .password .now) (length (args .stream .now)) (length (args .scratch .now)) (length (args .output .now))))
+    (sym (at-check-lent .check-lent .ensures) ∙ at-enum-told .enum-told .given .1) in
+    let t = lent-tells (args .password .now) (length (args .stream .now)) (length (args .scratch .now)) (length (args .output .now)) e in
+    settled-all (args .stream .now) (args .password .now) (args .scratch .now) (args .output .now) e _ _ _ _ (at-open-stream .open-stream .ensures)
+    (rw (at-open-stream .open-stream .ensures .same) (t .1)) (at-wipe .wipe .ensures .1)
 
 pub open-spec : {M : Type 1} → statement M
 open-spec =

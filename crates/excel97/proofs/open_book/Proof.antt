@@ -23,44 +23,66 @@ module _ (c : tie.Start) where
   fit : Ready (c .args .stream .now) (c .args .output .now) (c .args .found .at) (c .args .found .len)
   fit = ready (c .args .stream .now) (c .pre .0) (c .args .found) (c .pre .1) (c .args .output .now) (c .pre .4)
 
-  body-is : take (c .args .found .at + 4 + c .args .found .len - (c .args .found .at + 4)) (drop (c .args .found .at + 4) (c .args .stream .now)) ≡ filepassBody (c .args .stream .now)
+  body-is : take (c .args .found .at + 4 + c .args .found .len - (c .args .found .at + 4)) (drop (c .args .found .at + 4) (c .args .stream .now)) ≡ filepassBody
+      (c .args .stream .now)
   body-is = body-slice (c .args .stream .now) (c .args .found .at) (c .args .found .len) (fit .found)
 
 add-start : tie.Need-add-start
-add-start c = let h = fit (c .before .before .before .before) .inside in omega (arith, c .before .before .before .before .good)
+add-start c =
+    let start = c .before .before .before .before in
+    let h = fit start .inside in omega (arith, start .good)
 
 add-end : tie.Need-add-end
-add-end c = let h = fit (c .before .before .before .before) .inside in omega (arith, c .before .before .before .before .good)
+add-end c =
+    let start = c .before .before .before .before in
+    let h = fit start .inside in omega (arith, start .good)
 
 part-find-lock-end : tie.Need-part-find-lock-end
 part-find-lock-end c = fit (c .before .before .before .before) .inside
 
 -- what was found of the lock
 module _ (c : tie.After-find-lock) where
-  told : c .find-lock .result ≡ schemeOf (schemeBy (filepassBody (c .before .before .before .before .before .before .args .stream .now))) (asked (lock (filepassBody (c .before .before .before .before .before .before .args .stream .now))))
+  told :
+      let start = c .before .before .before .before .before .before in
+      c .find-lock .result ≡ schemeOf (schemeBy (filepassBody (start .args .stream .now))) (asked (lock (filepassBody (start .args .stream .now))))
   told = rw (body-is (c .before .before .before .before .before .before)) at (c .find-lock .ensures)
 
 unlock-xor-requires : tie.Need-unlock-xor-requires
 unlock-xor-requires c κs =
-    let x = xor-found (filepassBody (c .before .before .before .before .before .before .before .before .before .args .stream .now)) (sym (told (c .before .before .before)) ∙ c .before .enum-told .given .1) in
-    (fit (c .before .before .before .before .before .before .before .before .before), x .1, six-there (filepassBody (c .before .before .before .before .before .before .before .before .before .args .stream .now)) (x .0) (x .1))
+    let at-find-lock = c .before .before .before in
+    let start = at-find-lock .before .before .before .before .before .before in
+    let x = xor-found (filepassBody (start .args .stream .now)) (sym (told at-find-lock) ∙ c .before .enum-told .given .1) in
+    (fit start, x .1, six-there (filepassBody (start .args .stream .now)) (x .0) (x .1))
 
 unlock-rc4-requires : tie.Need-unlock-rc4-requires
 unlock-rc4-requires c κs =
-    let x = rc4-found (filepassBody (c .before .before .before .before .before .before .before .before .before .before .before .args .stream .now)) _ (sym (told (c .before .before .before .before .before)) ∙ c .before .before .before .rc4-lock .given .1) in
-    (fit (c .before .before .before .before .before .before .before .before .before .before .before), x .1, two-there (filepassBody (c .before .before .before .before .before .before .before .before .before .before .before .args .stream .now)) (x .0), x .2, c .before .before .before .before .before .before .before .before .before .before .before .pre .2, more _ (c .before .before .before .before .before .before .before .before .before .before .before .pre .3))
+    let at-rc4-lock = c .before .before .before in
+    let at-find-lock = at-rc4-lock .before .before in
+    let start = at-find-lock .before .before .before .before .before .before in
+    let x = rc4-found (filepassBody (start .args .stream .now)) _ (sym (told at-find-lock) ∙ at-rc4-lock .rc4-lock .given .1) in
+    (fit start, x .1, two-there (filepassBody (start .args .stream .now)) (x .0), x .2, start .pre .2, more _ (start .pre .3))
   where
     more : (n : ℕ) → 2064 ≤ n → 64 ≤ n
     more n h = omega arith
 
 returns : tie.Need-returns
-returns c = refused-lock (c .before .before .before .before .before .before .before .before .before .args .stream .now) (c .before .before .before .before .before .before .before .before .before .args .password .now) (c .before .before .before .before .before .before .before .before .before .args .scratch .now) (c .before .before .before .before .before .before .before .before .before .args .output .now) (c .before .before .before .before .before .before .before .before .before .pre .0) _ (lock-refused (filepassBody (c .before .before .before .before .before .before .before .before .before .args .stream .now)) _ (sym (told (c .before .before .before)) ∙ c .before .refusal .given .1))
+returns c =
+    let at-find-lock = c .before .before .before in
+    let start = at-find-lock .before .before .before .before .before .before in
+    let args = start .args in
+    refused-lock (args .stream .now) (args .password .now) (args .scratch .now) (args .output .now) (start .pre .0) _
+    (lock-refused (filepassBody (args .stream .now)) _ (sym (told at-find-lock) ∙ c .before .refusal .given .1))
 
 returns-2 : tie.Need-returns-2
 returns-2 c =
-    let x = xor-found (filepassBody (c .before .before .before .before .before .before .before .before .before .before .before .before .before .args .stream .now)) (sym (told (c .before .before .before .before .before .before .before)) ∙ c .before .before .before .before .before .enum-told .given .1) in
-    tried (c .before .before .before .before .before .before .before .before .before .before .before .before .before .args .stream .now) (c .before .before .before .before .before .before .before .before .before .before .before .before .before .args .password .now) (c .before .before .before .before .before .before .before .before .before .before .before .before .before .args .scratch .now) (c .before .before .before .before .before .before .before .before .before .before .before .before .before .args .output .now) (c .before .before .before .before .before .before .before .before .before .before .before .before .before .pre .0) (x .0) _ _ _ _ _ (c .before .before .before .unlock-xor .ensures)
-    (ap xorReport (records-told (c .before .before .before .before .before .before .before .before .before .before .before .before .before .args .stream .now) (c .before .before .before .before .before .before .before .before .before .before .before .before .before .args .found) (c .before .before .before .before .before .before .before .before .before .before .before .before .before .pre .1)) ∙ xor-reported (c .before .before .before .before .before .before .before .before .before .before .before .before .before .args .stream .now) (x .1)) (c .answer-of .ensures) refl refl
+    let at-unlock-xor = c .before .before .before in
+    let at-enum-told = at-unlock-xor .before .before in
+    let at-find-lock = at-enum-told .before .before in
+    let start = at-find-lock .before .before .before .before .before .before in
+    let args = start .args in
+    let x = xor-found (filepassBody (args .stream .now)) (sym (told at-find-lock) ∙ at-enum-told .enum-told .given .1) in
+    tried (args .stream .now) (args .password .now) (args .scratch .now) (args .output .now) (start .pre .0) (x .0) _ _ _ _ _ (at-unlock-xor .unlock-xor .ensures)
+    (ap xorReport (records-told (args .stream .now) (args .found) (start .pre .1)) ∙ xor-reported (args .stream .now) (x .1)) (c .answer-of .ensures) refl refl
 
 -- the scratch after the first 64 bytes were used
 same-size : (w : List ℕ) → 2064 ≤ length w → length (replicate 64 0 ++ drop 64 w) ≡ length w
@@ -68,11 +90,17 @@ same-size w h = length-append (replicate 64 0) (drop 64 w) ∙ simp (length-repl
 
 returns-3 : tie.Need-returns-3
 returns-3 c =
-    let x = rc4-found (filepassBody (c .before .before .before .before .before .before .before .before .before .before .before .before .before .before .before .before .before .before .args .stream .now)) _ (sym (told (c .before .before .before .before .before .before .before .before .before .before .before .before)) ∙ c .before .before .before .before .before .before .before .before .before .before .rc4-lock .given .1) in
-    let w = c .before .before .before .before .before .before .unlock-rc4 .ensures .1 in
-    tried (c .before .before .before .before .before .before .before .before .before .before .before .before .before .before .before .before .before .before .args .stream .now) (c .before .before .before .before .before .before .before .before .before .before .before .before .before .before .before .before .before .before .args .password .now) (c .before .before .before .before .before .before .before .before .before .before .before .before .before .before .before .before .before .before .args .scratch .now) (c .before .before .before .before .before .before .before .before .before .before .before .before .before .before .before .before .before .before .args .output .now) (c .before .before .before .before .before .before .before .before .before .before .before .before .before .before .before .before .before .before .pre .0) (x .0) _ _ _ _ _ (c .before .before .before .before .before .before .unlock-rc4 .ensures .0)
-    (rw (c .before .lock-of .ensures, records-told (c .before .before .before .before .before .before .before .before .before .before .before .before .before .before .before .before .before .before .args .stream .now) (c .before .before .before .before .before .before .before .before .before .before .before .before .before .before .before .before .before .before .args .found) (c .before .before .before .before .before .before .before .before .before .before .before .before .before .before .before .before .before .before .pre .1), x .2) (rc4-reported (c .before .before .before .before .before .before .before .before .before .before .before .before .before .before .before .before .before .before .args .stream .now) (x .1))) (c .answer-of2 .ensures)
-    (ap length w ∙ same-size (c .before .before .before .before .before .before .before .before .before .before .before .before .before .before .before .before .before .before .args .scratch .now) (c .before .before .before .before .before .before .before .before .before .before .before .before .before .before .before .before .before .before .pre .3)) (ap (drop 64) w)
+    let at-unlock-rc4 = c .before .before .before .before .before .before in
+    let at-rc4-lock = at-unlock-rc4 .before .before .before .before in
+    let at-find-lock = at-rc4-lock .before .before in
+    let start = at-find-lock .before .before .before .before .before .before in
+    let args = start .args in
+    let x = rc4-found (filepassBody (args .stream .now)) _ (sym (told at-find-lock) ∙ at-rc4-lock .rc4-lock .given .1) in
+    let w = at-unlock-rc4 .unlock-rc4 .ensures .1 in
+    tried (args .stream .now) (args .password .now) (args .scratch .now) (args .output .now) (start .pre .0) (x .0) _ _ _ _ _ (at-unlock-rc4 .unlock-rc4 .ensures .0)
+    (rw (c .before .lock-of .ensures, records-told (args .stream .now) (args .found) (start .pre .1), x .2) (rc4-reported (args .stream .now) (x .1)))
+    (c .answer-of2 .ensures)
+    (ap length w ∙ same-size (args .scratch .now) (start .pre .3)) (ap (drop 64) w)
 
 pub open-book-spec : {M : Type 1} → statement M
 open-book-spec =

@@ -10,13 +10,26 @@ use Rattle.excel97.proofs.open_stream.Tie as tie
 
 open-book-requires : tie.Need-open-book-requires
 open-book-requires c κs =
-    let e = sym (c .before .before .before .before .before .survey .ensures) ∙ c .before .before .before .found .given .1 in
-    (survey-passed (bookOf (c .before .before .before .before .before .before .before .before .before .before .args .stream .now)) (asked (book (c .before .before .before .before .before .before .before .before .before .before .args .stream .now))) _ e, survey-told (bookOf (c .before .before .before .before .before .before .before .before .before .before .args .stream .now)) (asked (book (c .before .before .before .before .before .before .before .before .before .before .args .stream .now))) _ e, c .before .before .before .before .before .before .before .before .before .before .pre .0, c .before .before .before .before .before .before .before .before .before .before .pre .1, c .before .before .before .before .before .before .before .before .before .before .pre .2)
+    let at-found = c .before .before .before in
+    let at-survey = at-found .before .before in
+    let start = at-survey .before .before .before .before .before in
+    let args = start .args in
+    let e = sym (at-survey .survey .ensures) ∙ at-found .found .given .1 in (
+      survey-passed (bookOf (args .stream .now)) (asked (book (args .stream .now))) _ e,
+      survey-told (bookOf (args .stream .now))
+          (asked (book (args .stream .now))) _ e,
+      start .pre .0,
+      start .pre .1,
+      start .pre .2,
+    )
 
 returns : tie.Need-returns
 returns c =
-    refused-early (c .before .before .before .before .before .before .before .before .args .stream .now) (c .before .before .before .before .before .before .before .before .args .password .now) (c .before .before .before .before .before .before .before .before .args .scratch .now) (c .before .before .before .before .before .before .before .before .args .output .now) _
-    (survey-refused (bookOf (c .before .before .before .before .before .before .before .before .args .stream .now)) (asked (book (c .before .before .before .before .before .before .before .before .args .stream .now))) _ (sym (c .before .before .before .survey .ensures) ∙ c .before .refusal .given .1))
+    let at-survey = c .before .before .before in
+    let start = at-survey .before .before .before .before .before in
+    let args = start .args in
+    refused-early (args .stream .now) (args .password .now) (args .scratch .now) (args .output .now) _
+    (survey-refused (bookOf (args .stream .now)) (asked (book (args .stream .now))) _ (sym (at-survey .survey .ensures) ∙ c .before .refusal .given .1))
 
 pub open-stream-spec : {M : Type 1} → statement M
 open-stream-spec =

@@ -25,36 +25,63 @@ loop-holds c = (reached-none _, written-none _ _ _)
 
 copy-requires : tie.Need-copy-requires Inv-loop μ-loop
 copy-requires c κs =
-    let h = record-within (c .before .before .before .before .before .before .before .before .before .args .stream .now) (c .before .before .before .before .before .before .loop .at) _ _ (sym (c .before .before .before .before .before .step-at .ensures) ∙ c .before .before .before .id .given .1) in
+    let at-id = c .before .before .before in
+    let at-step-at = at-id .before .before in
+    let at-loop = at-step-at .before in
+    let start = at-loop .before .before .before in
+    let h = record-within (start .args .stream .now) (at-loop .loop .at) _ _ (sym (at-step-at .step-at .ensures) ∙ at-id .id .given .1) in
     let k = c .before .clear-len .ensures in
-    let m = clear-within (c .before .before .before .id .given .0 .0) (c .before .before .before .id .given .0 .1 .0) in
-    let w = c .before .before .before .before .before .before .loop .inv .1 .same in
-    let p = c .before .before .before .before .before .before .before .before .before .pre .1 in
+    let m = clear-within (at-id .id .given .0 .0) (at-id .id .given .0 .1 .0) in
+    let w = at-loop .loop .inv .1 .same in
+    let p = start .pre .1 in
     (omega arith, omega arith, omega arith)
 
 loop-less : tie.Need-loop-less Inv-loop μ-loop
 loop-less c =
-    let h = record-within (c .before .before .before .before .before .before .before .before .before .before .before .before .args .stream .now) (c .before .before .before .before .before .before .before .before .before .loop .at) _ _ (sym (c .before .before .before .before .before .before .before .before .step-at .ensures) ∙ c .before .before .before .before .before .before .id .given .1) in
+    let at-id = c .before .before .before .before .before .before in
+    let at-step-at = at-id .before .before in
+    let at-loop = at-step-at .before in
+    let start = at-loop .before .before .before in
+    let h = record-within (start .args .stream .now) (at-loop .loop .at) _ _ (sym (at-step-at .step-at .ensures) ∙ at-id .id .given .1) in
     omega arith
 
 loop-again : tie.Need-loop-again Inv-loop μ-loop
 loop-again c =
-    let e = sym (c .before .before .before .before .before .before .before .before .step-at .ensures) ∙ c .before .before .before .before .before .before .id .given .1 in (
-      reached-on (c .before .before .before .before .before .before .before .before .before .before .before .before .args .stream .now) (c .before .before .before .before .before .before .before .before .before .loop .at) _ _ (c .before .before .before .before .before .before .before .before .before .loop .inv .0) e,
-      through-kept (c .before .before .before .before .before .before .before .before .before .before .before .before .args .stream .now) (c .before .before .before .before .before .before .before .before .before .loop .at) _ _ (c .before .before .before .before .before .before .before .before .before .loop .inv .0) e (c .before .before .before .before .before .before .before .before .before .before .before .before .args .output .now) (c .before .before .before .before .before .before .before .before .before .loop .output) _ _ (ap (λ (n : ℕ). c .before .before .before .before .before .before .before .before .before .loop .at + 4 + n) (c .before .before .before .before .clear-len .ensures)) (c .before .before .before .before .before .before .before .before .before .loop .inv .1) (c .before .before .copy .ensures),
+    let at-copy = c .before .before in
+    let at-clear-len = at-copy .before .before in
+    let at-id = at-clear-len .before .before in
+    let at-step-at = at-id .before .before in
+    let at-loop = at-step-at .before in
+    let loop = at-loop .loop in
+    let start = at-loop .before .before .before in
+    let args = start .args in
+    let e = sym (at-step-at .step-at .ensures) ∙ at-id .id .given .1 in (
+      reached-on (args .stream .now) (loop .at) _ _ (loop .inv .0) e,
+      through-kept (args .stream .now) (loop .at) _ _ (loop .inv .0) e (args .output .now) (loop .output) _ _
+          (ap (λ (n : ℕ). loop .at + 4 + n) (at-clear-len .clear-len .ensures)) (loop .inv .1) (at-copy .copy .ensures),
     )
 
 same-length : tie.Need-same-length Inv-loop μ-loop
 same-length c = c .before .before .before .loop .inv .1 .same
 
 returns : tie.Need-returns Inv-loop μ-loop
-returns c = absurd (reached-fault (c .before .before .before .before .before .before .args .stream .now) (c .before .before .before .loop .at) (c .before .before .before .loop .inv .0) _ (sym (c .before .before .step-at .ensures) ∙ c .enum-told .given .1) (c .before .before .before .before .before .before .pre .0))
+returns c =
+    let at-step-at = c .before .before in
+    let at-loop = at-step-at .before in
+    let start = at-loop .before .before .before in
+    absurd (reached-fault (start .args .stream .now) (at-loop .loop .at) (at-loop .loop .inv .0) _ (sym (at-step-at .step-at .ensures) ∙ c .enum-told .given .1)
+    (start .pre .0))
 
 same-length-2 : tie.Need-same-length-2 Inv-loop μ-loop
 same-length-2 c = c .before .before .before .loop .inv .1 .same
 
 returns-2 : tie.Need-returns-2 Inv-loop μ-loop
-returns-2 c = rw (← reached-end (c .before .before .before .before .before .before .args .stream .now) (c .before .before .before .loop .at) (c .before .before .before .loop .inv .0) (sym (c .before .before .step-at .ensures) ∙ c .enum-told2 .given .1)) (c .before .before .before .loop .inv .1)
+returns-2 c =
+    let at-step-at = c .before .before in
+    let at-loop = at-step-at .before in
+    let loop = at-loop .loop in
+    let start = at-loop .before .before .before in
+    rw (← reached-end (start .args .stream .now) (loop .at) (loop .inv .0) (sym (at-step-at .step-at .ensures) ∙ c .enum-told2 .given .1)) (loop .inv .1)
 
 pub restore-spec : {M : Type 1} → statement M
 restore-spec =

@@ -8,13 +8,22 @@ use Rattle.excel97.proofs.starts_bof.Statement.{statement}
 use Rattle.excel97.proofs.starts_bof.Tie as tie
 
 returns : tie.Need-returns
-returns c = sym (starts (c .before .before .before .before .before .args .stream .now) 0 _ _ (sym (c .before .before .before .step-at .ensures) ∙ c .before .id .given .1))
+returns c =
+    let at-step-at = c .before .before .before in
+    let start = at-step-at .before .before in
+    sym (starts (start .args .stream .now) 0 _ _ (sym (at-step-at .step-at .ensures) ∙ c .before .id .given .1))
 
 returns-2 : tie.Need-returns-2
-returns-2 c = sym (not-bof (walk (c .before .before .before .before .args .stream .now) .records) (records-fault (c .before .before .before .before .args .stream .now) 0 _ (sym (c .before .before .step-at .ensures) ∙ c .enum-told .given .1)))
+returns-2 c =
+    let at-step-at = c .before .before in
+    let start = at-step-at .before .before in
+    sym (not-bof (walk (start .args .stream .now) .records) (records-fault (start .args .stream .now) 0 _ (sym (at-step-at .step-at .ensures) ∙ c .enum-told .given .1)))
 
 returns-3 : tie.Need-returns-3
-returns-3 c = sym (not-bof (walk (c .before .before .before .before .args .stream .now) .records) (records-end (c .before .before .before .before .args .stream .now) 0 (sym (c .before .before .step-at .ensures) ∙ c .enum-told2 .given .1)))
+returns-3 c =
+    let at-step-at = c .before .before in
+    let start = at-step-at .before .before in
+    sym (not-bof (walk (start .args .stream .now) .records) (records-end (start .args .stream .now) 0 (sym (at-step-at .step-at .ensures) ∙ c .enum-told2 .given .1)))
 
 pub starts-bof-spec : {M : Type 1} → statement M
 starts-bof-spec =

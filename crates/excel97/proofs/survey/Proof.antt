@@ -12,12 +12,18 @@ use Rattle.excel97.proofs.survey.Statement.{statement}
 use Rattle.excel97.proofs.survey.Tie as tie
 
 returns : tie.Need-returns
-returns c = unreadable (c .before .before .before .before .before .args .stream .now) _ (sym (ap (λ (w : Walked). w .end) (c .before .before .before .walk .ensures)) ∙ c .before .end .given .1)
+returns c =
+    let at-walk = c .before .before .before in
+    let start = at-walk .before .before in
+    unreadable (start .args .stream .now) _ (sym (ap (λ (w : Walked). w .end) (at-walk .walk .ensures)) ∙ c .before .end .given .1)
 
 returns-2 : tie.Need-returns-2
 returns-2 c =
+    let at-walk = c .before .before .before in
+    let start = at-walk .before .before in
     c .in-order .ensures
-    ∙ rw (ap (λ (w : Walked). w .records) (c .before .before .before .walk .ensures)) (walked (c .before .before .before .before .before .args .stream .now) (sym (ap (λ (w : Walked). w .end) (c .before .before .before .walk .ensures)) ∙ c .before .enum-told .given .1))
+    ∙ rw (ap (λ (w : Walked). w .records) (at-walk .walk .ensures))
+    (walked (start .args .stream .now) (sym (ap (λ (w : Walked). w .end) (at-walk .walk .ensures)) ∙ c .before .enum-told .given .1))
 
 pub survey-spec : {M : Type 1} → statement M
 survey-spec =

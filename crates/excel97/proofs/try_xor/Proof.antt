@@ -30,7 +30,13 @@ slice-aggregate-xor-key : tie.Need-slice-aggregate-xor-key
 slice-aggregate-xor-key c = count (c .before .before)
 
 returns : tie.Need-returns
-returns c = no-key (c .before .before .before .before .before .before .before .before .args .body .now) (ansi (c .before .before .before .before .before .before .before .before .args .password .now)) (sized (c .before .before .before .before .before .before .before .before .args .password .now)) (sym (c .enum-told .given .1) ∙ c .before .before .xor-key .ensures ∙ ap keyOf (bytes-told (c .before .before .before .before .before)))
+returns c =
+    let at-xor-key = c .before .before in
+    let at-ansi-password = at-xor-key .before .before .before in
+    let start = at-ansi-password .before .before .before in
+    let args = start .args in
+    no-key (args .body .now) (ansi (args .password .now)) (sized (args .password .now))
+    (sym (c .enum-told .given .1) ∙ at-xor-key .xor-key .ensures ∙ ap keyOf (bytes-told at-ansi-password))
 
 array-share-prefix-bytes-2 : tie.Need-array-share-prefix-bytes-2
 array-share-prefix-bytes-2 c = room (c .before .before .before .before .before .before)
@@ -39,18 +45,29 @@ slice-aggregate-xor-array : tie.Need-slice-aggregate-xor-array
 slice-aggregate-xor-array c = count (c .before .before .before .before .before .before .before)
 
 array-share-prefix-bytes-3 : tie.Need-array-share-prefix-bytes-3
-array-share-prefix-bytes-3 c = room (c .before .before .before .before .before .before .before .before)
+array-share-prefix-bytes-3 c =
+    let at-ansi-password = c .before .before .before .before .before .before .before .before in
+    room at-ansi-password
 
 slice-aggregate-password-verifier : tie.Need-slice-aggregate-password-verifier
-slice-aggregate-password-verifier c = count (c .before .before .before .before .before .before .before .before .before)
+slice-aggregate-password-verifier c =
+    let at-ansi-password = c .before .before .before .before .before .before .before .before .before in
+    count at-ansi-password
 
 returns-2 : tie.Need-returns-2
 returns-2 c =
-    let e = bytes-told (c .before .before .before .before .before .before .before .before .before .before .before .before) in
-    with-key (c .before .before .before .before .before .before .before .before .before .before .before .before .before .before .before .args .body .now) (ansi (c .before .before .before .before .before .before .before .before .before .before .before .before .before .before .before .args .password .now)) (sized (c .before .before .before .before .before .before .before .before .before .before .before .before .before .before .before .args .password .now)) _ _ _ _ _
-    (sym (c .before .before .before .before .before .before .before .key .given .1) ∙ c .before .before .before .before .before .before .before .before .before .xor-key .ensures ∙ ap keyOf e)
-    (c .before .before .password-verifier .ensures ∙ ap passwordVerifier e)
-    (c .before .before .before .before .xor-array .ensures ∙ rw e)
+    let at-password-verifier = c .before .before in
+    let at-xor-array = at-password-verifier .before .before in
+    let at-key = at-xor-array .before .before .before in
+    let at-xor-key = at-key .before .before in
+    let at-ansi-password = at-xor-key .before .before .before in
+    let start = at-ansi-password .before .before .before in
+    let args = start .args in
+    let e = bytes-told at-ansi-password in
+    with-key (args .body .now) (ansi (args .password .now)) (sized (args .password .now)) _ _ _ _ _
+    (sym (at-key .key .given .1) ∙ at-xor-key .xor-key .ensures ∙ ap keyOf e)
+    (at-password-verifier .password-verifier .ensures ∙ ap passwordVerifier e)
+    (at-xor-array .xor-array .ensures ∙ rw e)
     (c .before .field .ensures)
     (c .field2 .ensures)
 

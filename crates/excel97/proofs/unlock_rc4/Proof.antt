@@ -45,33 +45,57 @@ part-structure-start c = room (c .before .before .before .before .before)
 
 module _ (c : tie.After-schedule-of) where
   there : c .schedule-of .result .ok ≡ true
-  there = made (c .before .before .before .before .before .before .before .before .args .lock) _ (c .before .before .before .before .before .before .before .before .args .password .now) (c .before .before .before .before .before .before .before .before .args .scratch .now) _ _ (c .schedule-of .ensures) (c .before .before .before .before .before .before .before .before .pre .5) (c .before .before .before .before .before .before .before .before .pre .4)
+  there =
+      let start = c .before .before .before .before .before .before .before .before in
+      let args = start .args in
+      made (args .lock) _ (args .password .now) (args .scratch .now) _ _ (c .schedule-of .ensures) (start .pre .5) (start .pre .4)
 
-  schedule-is : c .schedule-of .result .schedule ≡ scheduleOf (c .before .before .before .before .before .before .before .before .args .lock .kind) (c .before .before .before .before .before .before .before .before .args .lock .«key_bits») (part (structure (c .before .before .before .before .before .before .before .before)) (c .before .before .before .before .before .before .before .before .args .lock .salt) 16) (c .before .before .before .before .before .before .before .before .args .password .now)
-  schedule-is = schedule-made (c .before .before .before .before .before .before .before .before .args .lock) _ (c .before .before .before .before .before .before .before .before .args .password .now) (c .before .before .before .before .before .before .before .before .args .scratch .now) _ _ (c .schedule-of .ensures) (c .before .before .before .before .before .before .before .before .pre .5) (c .before .before .before .before .before .before .before .before .pre .4)
+  schedule-is :
+      let start = c .before .before .before .before .before .before .before .before in
+      let args = start .args in
+      c .schedule-of .result .schedule ≡ scheduleOf (args .lock .kind) (args .lock .«key_bits») (part (structure start) (args .lock .salt) 16) (args .password .now)
+  schedule-is =
+      let start = c .before .before .before .before .before .before .before .before in
+      let args = start .args in
+      schedule-made (args .lock) _ (args .password .now) (args .scratch .now) _ _ (c .schedule-of .ensures) (start .pre .5) (start .pre .4)
 
 returns : tie.Need-returns
 returns c = absurd (never (sym (there (c .before .before .before .before)) ∙ not-true _ (c .if1 .taken)))
 
 returns-2 : tie.Need-returns-2
-returns-2 c = (
-  unlocks-no (c .before .before .before .before .before .before .before .before .before .before .before .before .before .before .before .args .stream .now) (c .before .before .before .before .before .before .before .before .before .before .before .before .before .before .before .args .password .now) (c .before .before .before .before .before .before .before .before .before .before .before .before .before .before .before .args .output .now)
-      (rc4-told (filepassBody (c .before .before .before .before .before .before .before .before .before .before .before .before .before .before .before .args .stream .now)) (c .before .before .before .before .before .before .before .before .before .before .before .before .before .before .before .args .password .now) (structure (c .before .before .before .before .before .before .before .before .before .before .before .before .before .before .before)) (c .before .before .before .before .before .before .before .before .before .before .before .before .before .before .before .args .lock) _ (c .before .before .before .before .before .before .before .before .before .before .before .before .before .before .before .pre .1) (structure-is (c .before .before .before .before .before .before .before .before .before .before .before .before .before .before .before)) (c .before .before .before .before .before .before .before .before .before .before .before .before .before .before .before .pre .3) (schedule-is (c .before .before .before .before .before .before .before)) _ (c .before .verify .ensures)
-      ∙ not-true _ (c .if2 .taken)),
-  left-zero (c .before .before .before .before .before .before .before .before .before .before .before .before .before .before .before .args .lock) _ (c .before .before .before .before .before .before .before .before .before .before .before .before .before .before .before .args .password .now) (c .before .before .before .before .before .before .before .before .before .before .before .before .before .before .before .args .scratch .now) _ _ (c .before .before .before .before .before .before .before .schedule-of .ensures) (c .before .before .before .before .before .before .before .before .before .before .before .before .before .before .before .pre .5) (c .before .before .before .before .before .before .before .before .before .before .before .before .before .before .before .pre .4),
-)
+returns-2 c =
+    let at-schedule-of = c .before .before .before .before .before .before .before in
+    let start = at-schedule-of .before .before .before .before .before .before .before .before in
+    let args = start .args in (
+      unlocks-no (args .stream .now) (args .password .now) (args .output .now)
+          (rc4-told (filepassBody (args .stream .now)) (args .password .now) (structure start) (args .lock) _ (start .pre .1) (structure-is start)
+          (start .pre .3) (schedule-is at-schedule-of) _ (c .before .verify .ensures)
+          ∙ not-true _ (c .if2 .taken)),
+      left-zero (args .lock) _ (args .password .now) (args .scratch .now) _ _ (at-schedule-of .schedule-of .ensures) (start .pre .5) (start .pre .4),
+    )
 
 returns-3 : tie.Need-returns-3
-returns-3 c = (
-  unlocks-yes (c .before .before .before .before .before .before .before .before .before .before .before .before .before .before .before .before .before .before .before .before .before .before .before .args .stream .now) (c .before .before .before .before .before .before .before .before .before .before .before .before .before .before .before .before .before .before .before .before .before .before .before .args .password .now) (c .before .before .before .before .before .before .before .before .before .before .before .before .before .before .before .before .before .before .before .before .before .before .before .args .output .now) _
-      (rc4-told (filepassBody (c .before .before .before .before .before .before .before .before .before .before .before .before .before .before .before .before .before .before .before .before .before .before .before .args .stream .now)) (c .before .before .before .before .before .before .before .before .before .before .before .before .before .before .before .before .before .before .before .before .before .before .before .args .password .now) (structure (c .before .before .before .before .before .before .before .before .before .before .before .before .before .before .before .before .before .before .before .before .before .before .before)) (c .before .before .before .before .before .before .before .before .before .before .before .before .before .before .before .before .before .before .before .before .before .before .before .args .lock) _ (c .before .before .before .before .before .before .before .before .before .before .before .before .before .before .before .before .before .before .before .before .before .before .before .pre .1) (structure-is (c .before .before .before .before .before .before .before .before .before .before .before .before .before .before .before .before .before .before .before .before .before .before .before)) (c .before .before .before .before .before .before .before .before .before .before .before .before .before .before .before .before .before .before .before .before .before .before .before .pre .3) (schedule-is (c .before .before .before .before .before .before .before .before .before .before .before .before .before .before .before)) _ (c .before .before .before .before .before .before .before .before .before .verify .ensures)
-      ∙ not-false _ (c .before .before .before .before .before .before .before .before .if2 .left))
-      (plain-left (c .before .before .before .before .before .before .before .before .before .before .before .before .before .before .before .before .before .before .before .before .before .before .before .args .stream .now) (c .before .before .before .before .before .before .before .before .before .before .before .before .before .before .before .before .before .before .before .before .before .before .before .args .at) (c .before .before .before .before .before .before .before .before .before .before .before .before .before .before .before .before .before .before .before .before .before .before .before .args .len) (c .before .before .before .before .before .before .before .before .before .before .before .before .before .before .before .before .before .before .before .before .before .before .before .pre .0 .found) (c .before .before .before .before .before .before .before .before .before .before .before .before .before .before .before .before .before .before .before .before .before .before .before .args .password .now) (c .before .before .before .before .before .before .before .before .before .before .before .before .before .before .before .before .before .before .before .before .before .before .before .args .output .now) _ _ (λ (r : BiffRecord) (o x : ℕ). bitXor x (keystreamAt 1024 (blockKey (c .before .before .before .before .before .before .before .before .before .before .before .before .before .before .before .schedule-of .result .schedule)) o)) (c .before .before .before .before .before .before .before .before .before .before .before .before .before .before .before .before .before .before .before .before .before .before .before .pre .0 .inside) (c .before .before .before .before .before .before .before .before .before .before .before .before .before .before .before .before .before .before .before .before .before .before .before .pre .0 .room)
-      (c .before .before .before .before .before .before .unrc4 .ensures)
-      (rc4-plain (filepassBody (c .before .before .before .before .before .before .before .before .before .before .before .before .before .before .before .before .before .before .before .before .before .before .before .args .stream .now)) (c .before .before .before .before .before .before .before .before .before .before .before .before .before .before .before .before .before .before .before .before .before .before .before .args .password .now) (structure (c .before .before .before .before .before .before .before .before .before .before .before .before .before .before .before .before .before .before .before .before .before .before .before)) (c .before .before .before .before .before .before .before .before .before .before .before .before .before .before .before .before .before .before .before .before .before .before .before .args .lock) _ (c .before .before .before .before .before .before .before .before .before .before .before .before .before .before .before .before .before .before .before .before .before .before .before .pre .1) (structure-is (c .before .before .before .before .before .before .before .before .before .before .before .before .before .before .before .before .before .before .before .before .before .before .before)) (c .before .before .before .before .before .before .before .before .before .before .before .before .before .before .before .before .before .before .before .before .before .before .before .pre .3) (schedule-is (c .before .before .before .before .before .before .before .before .before .before .before .before .before .before .before)))
-      (c .before .before .blank .ensures)),
-  left-zero (c .before .before .before .before .before .before .before .before .before .before .before .before .before .before .before .before .before .before .before .before .before .before .before .args .lock) _ (c .before .before .before .before .before .before .before .before .before .before .before .before .before .before .before .before .before .before .before .before .before .before .before .args .password .now) (c .before .before .before .before .before .before .before .before .before .before .before .before .before .before .before .before .before .before .before .before .before .before .before .args .scratch .now) _ _ (c .before .before .before .before .before .before .before .before .before .before .before .before .before .before .before .schedule-of .ensures) (c .before .before .before .before .before .before .before .before .before .before .before .before .before .before .before .before .before .before .before .before .before .before .before .pre .5) (c .before .before .before .before .before .before .before .before .before .before .before .before .before .before .before .before .before .before .before .before .before .before .before .pre .4),
-)
+returns-3 c =
+    let at-blank = c .before .before in
+    let at-unrc4 = at-blank .before .before .before .before in
+    let at-if2 = at-unrc4 .before .before in
+    let at-verify = at-if2 .before in
+    let at-schedule-of = at-verify .before .before .before .before .before .before in
+    let start = at-schedule-of .before .before .before .before .before .before .before .before in
+    let args = start .args in (
+      unlocks-yes (args .stream .now) (args .password .now) (args .output .now) _
+          (rc4-told (filepassBody (args .stream .now)) (args .password .now) (structure start) (args .lock) _ (start .pre .1) (structure-is start)
+          (start .pre .3) (schedule-is at-schedule-of) _ (at-verify .verify .ensures)
+          ∙ not-false _ (at-if2 .if2 .left))
+          (plain-left (args .stream .now) (args .at) (args .len) (start .pre .0 .found) (args .password .now) (args .output .now) _ _
+          (λ (r : BiffRecord) (o x : ℕ). bitXor x (keystreamAt 1024 (blockKey (at-schedule-of .schedule-of .result .schedule)) o)) (start .pre .0 .inside)
+          (start .pre .0 .room)
+          (at-unrc4 .unrc4 .ensures)
+          (rc4-plain (filepassBody (args .stream .now)) (args .password .now) (structure start) (args .lock) _ (start .pre .1) (structure-is start)
+          (start .pre .3) (schedule-is at-schedule-of))
+          (at-blank .blank .ensures)),
+      left-zero (args .lock) _ (args .password .now) (args .scratch .now) _ _ (at-schedule-of .schedule-of .ensures) (start .pre .5) (start .pre .4),
+    )
 
 pub unlock-rc4-spec : {M : Type 1} → statement M
 unlock-rc4-spec =

@@ -13,21 +13,35 @@ use Rattle.excel97.proofs.unlock_xor.Statement.{statement}
 use Rattle.excel97.proofs.unlock_xor.Tie as tie
 
 try-xor-requires : tie.Need-try-xor-requires
-try-xor-requires c κs = rw (body-slice (c .before .before .before .before .args .stream .now) (c .before .before .before .before .args .at) (c .before .before .before .before .args .len) (c .before .before .before .before .pre .0 .found)) (c .before .before .before .before .pre .2)
+try-xor-requires c κs =
+    let start = c .before .before .before .before in
+    let args = start .args in
+    rw (body-slice (args .stream .now) (args .at) (args .len) (start .pre .0 .found)) (start .pre .2)
 
 returns : tie.Need-returns
 returns c =
-    let b = body-slice (c .before .before .before .before .before .before .before .args .stream .now) (c .before .before .before .before .before .before .before .args .at) (c .before .before .before .before .before .before .before .args .len) (c .before .before .before .before .before .before .before .pre .0 .found) in
-    unlocks-no (c .before .before .before .before .before .before .before .args .stream .now) (c .before .before .before .before .before .before .before .args .password .now) (c .before .before .before .before .before .before .before .args .output .now)
-    (xor-passes (filepassBody (c .before .before .before .before .before .before .before .args .stream .now)) (c .before .before .before .before .before .before .before .args .password .now) (c .before .before .before .before .before .before .before .pre .1) ∙ sym (c .before .before .try-xor .ensures .0 ∙ rw b) ∙ not-true _ (c .if1 .taken))
+    let at-try-xor = c .before .before in
+    let start = at-try-xor .before .before .before .before .before in
+    let args = start .args in
+    let b = body-slice (args .stream .now) (args .at) (args .len) (start .pre .0 .found) in
+    unlocks-no (args .stream .now) (args .password .now) (args .output .now)
+    (xor-passes (filepassBody (args .stream .now)) (args .password .now) (start .pre .1) ∙ sym (at-try-xor .try-xor .ensures .0 ∙ rw b) ∙ not-true _ (c .if1 .taken))
 
 returns-2 : tie.Need-returns-2
 returns-2 c =
-    let b = body-slice (c .before .before .before .before .before .before .before .before .before .before .before .before .before .before .before .before .before .args .stream .now) (c .before .before .before .before .before .before .before .before .before .before .before .before .before .before .before .before .before .args .at) (c .before .before .before .before .before .before .before .before .before .before .before .before .before .before .before .before .before .args .len) (c .before .before .before .before .before .before .before .before .before .before .before .before .before .before .before .before .before .pre .0 .found) in
-    unlocks-yes (c .before .before .before .before .before .before .before .before .before .before .before .before .before .before .before .before .before .args .stream .now) (c .before .before .before .before .before .before .before .before .before .before .before .before .before .before .before .before .before .args .password .now) (c .before .before .before .before .before .before .before .before .before .before .before .before .before .before .before .before .before .args .output .now) _
-    (xor-passes (filepassBody (c .before .before .before .before .before .before .before .before .before .before .before .before .before .before .before .before .before .args .stream .now)) (c .before .before .before .before .before .before .before .before .before .before .before .before .before .before .before .before .before .args .password .now) (c .before .before .before .before .before .before .before .before .before .before .before .before .before .before .before .before .before .pre .1) ∙ sym (c .before .before .before .before .before .before .before .before .before .before .before .before .try-xor .ensures .0 ∙ rw b) ∙ not-false _ (c .before .before .before .before .before .before .before .before .before .before .if1 .left))
-    (plain-left (c .before .before .before .before .before .before .before .before .before .before .before .before .before .before .before .before .before .args .stream .now) (c .before .before .before .before .before .before .before .before .before .before .before .before .before .before .before .before .before .args .at) (c .before .before .before .before .before .before .before .before .before .before .before .before .before .before .before .before .before .args .len) (c .before .before .before .before .before .before .before .before .before .before .before .before .before .before .before .before .before .pre .0 .found) (c .before .before .before .before .before .before .before .before .before .before .before .before .before .before .before .before .before .args .password .now) (c .before .before .before .before .before .before .before .before .before .before .before .before .before .before .before .before .before .args .output .now) _ _ (xorByte (c .before .before .before .before .before .before .before .before .before .before .before .before .try-xor .result .array)) (c .before .before .before .before .before .before .before .before .before .before .before .before .before .before .before .before .before .pre .0 .inside) (c .before .before .before .before .before .before .before .before .before .before .before .before .before .before .before .before .before .pre .0 .room)
-    (c .before .before .before .before .before .before .unxor .ensures) (xor-bytes (filepassBody (c .before .before .before .before .before .before .before .before .before .before .before .before .before .before .before .before .before .args .stream .now)) (c .before .before .before .before .before .before .before .before .before .before .before .before .before .before .before .before .before .args .password .now) (c .before .before .before .before .before .before .before .before .before .before .before .before .before .before .before .before .before .pre .1) _ (c .before .before .before .before .before .before .before .before .before .before .before .before .try-xor .ensures .1)) (c .before .before .blank .ensures))
+    let at-blank = c .before .before in
+    let at-unxor = at-blank .before .before .before .before in
+    let at-if1 = at-unxor .before .before .before .before in
+    let at-try-xor = at-if1 .before .before in
+    let start = at-try-xor .before .before .before .before .before in
+    let args = start .args in
+    let b = body-slice (args .stream .now) (args .at) (args .len) (start .pre .0 .found) in
+    unlocks-yes (args .stream .now) (args .password .now) (args .output .now) _
+    (xor-passes (filepassBody (args .stream .now)) (args .password .now) (start .pre .1) ∙ sym (at-try-xor .try-xor .ensures .0 ∙ rw b) ∙ not-false _ (at-if1 .if1 .left))
+    (plain-left (args .stream .now) (args .at) (args .len) (start .pre .0 .found) (args .password .now) (args .output .now) _ _
+    (xorByte (at-try-xor .try-xor .result .array)) (start .pre .0 .inside) (start .pre .0 .room)
+    (at-unxor .unxor .ensures) (xor-bytes (filepassBody (args .stream .now)) (args .password .now) (start .pre .1) _ (at-try-xor .try-xor .ensures .1))
+    (at-blank .blank .ensures))
 
 pub unlock-xor-spec : {M : Type 1} → statement M
 unlock-xor-spec =

@@ -7,7 +7,13 @@ use Rattle.excel97.proofs.unrc4.Statement.{statement}
 use Rattle.excel97.proofs.unrc4.Tie as tie
 
 returns : tie.Need-returns
-returns c = restored (c .before .before .before .before .before .before .before .before .before .before .args .stream .now) (c .before .before .before .before .before .before .before .before .before .before .args .output .now) _ _ (blockKey (c .before .before .before .before .before .before .before .before .before .before .args .schedule)) (c .before .before .before .before .before .before .before .before .before .before .pre .1) (c .before .before .before .before .before .before .decrypt-in-blocks .ensures) (c .before .before .restore .ensures)
+returns c =
+    let at-restore = c .before .before in
+    let at-decrypt-in-blocks = at-restore .before .before .before .before in
+    let start = at-decrypt-in-blocks .before .before .before .before in
+    let args = start .args in
+    restored (args .stream .now) (args .output .now) _ _ (blockKey (args .schedule)) (start .pre .1) (at-decrypt-in-blocks .decrypt-in-blocks .ensures)
+    (at-restore .restore .ensures)
 
 pub unrc4-spec : {M : Type 1} → statement M
 unrc4-spec = tie.close (tie.spec

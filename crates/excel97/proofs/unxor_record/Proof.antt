@@ -14,13 +14,16 @@ use Rattle.excel97.proofs.unxor_record.Tie as tie
 -- the clear part is no longer than the body
 module _ (c : tie.After-clear-len) where
   short : c .clear-len .result ≤ c .before .before .before .args .len
-  short = rw (c .clear-len .ensures) (clear-within (c .before .before .before .args .id) (c .before .before .before .args .len))
+  short =
+      let start = c .before .before .before in
+      rw (c .clear-len .ensures) (clear-within (start .args .id) (start .args .len))
 
 copy-requires : tie.Need-copy-requires
 copy-requires c κs =
+    let start = c .before .before .before .before in
     let h = short (c .before) in
-    let p = c .before .before .before .before .pre .0 in
-    let q = c .before .before .before .before .pre .1 in
+    let p = start .pre .0 in
+    let q = start .pre .1 in
     (search needs, omega arith, omega arith)
 
 sub-decrypt : tie.Need-sub-decrypt
@@ -37,8 +40,14 @@ part-decrypt-start-2 c = let h = short (c .before .before .before .before .befor
 
 returns : tie.Need-returns
 returns c =
-    xor-record (c .before .before .before .before .before .before .before .before .before .before .before .before .args .stream .now) (c .before .before .before .before .before .before .before .before .before .before .before .before .args .array .now) (c .before .before .before .before .before .before .before .before .before .before .before .before .args .output .now) _ _ (c .before .before .before .before .before .before .before .before .before .before .before .before .args .at) (c .before .before .before .before .before .before .before .before .before .before .before .before .args .id) (c .before .before .before .before .before .before .before .before .before .before .before .before .args .len) (c .before .before .before .before .before .before .before .before .before .clear-len .result) _ _ (c .before .before .before .before .before .before .before .before .before .before .before .before .pre .0) (c .before .before .before .before .before .before .before .before .before .before .before .before .pre .1)
-    (c .before .before .before .before .before .before .before .before .before .clear-len .ensures) refl refl (c .before .before .before .before .before .before .before .copy .ensures) (c .before .before .decrypt .ensures)
+    let at-decrypt = c .before .before in
+    let at-copy = at-decrypt .before .before .before .before .before in
+    let at-clear-len = at-copy .before .before in
+    let start = at-clear-len .before .before .before in
+    let args = start .args in
+    xor-record (args .stream .now) (args .array .now) (args .output .now) _ _ (args .at) (args .id) (args .len) (at-clear-len .clear-len .result) _ _
+    (start .pre .0) (start .pre .1)
+    (at-clear-len .clear-len .ensures) refl refl (at-copy .copy .ensures) (at-decrypt .decrypt .ensures)
 
 pub unxor-record-spec : {M : Type 1} → statement M
 unxor-record-spec =

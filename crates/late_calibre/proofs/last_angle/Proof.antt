@@ -16,11 +16,20 @@ abbrev μ-loop : tie.MeasureT-loop
 μ-loop sheet last₀ at₀ last at = length sheet - at
 
 loop-again : tie.Need-loop-again Inv-loop μ-loop
-loop-again c = record-within (c .before .before .before .before .before .before .before .args .sheet .now) (c .before .before .before .before .before .loop .at) _ _ (sym (c .before .before .before .before .step-at .ensures) ∙ c .before .before .id .given .1)
+loop-again c =
+    let at-id = c .before .before in
+    let at-step-at = at-id .before .before in
+    let at-loop = at-step-at .before in
+    let start = at-loop .before .before in
+    record-within (start .args .sheet .now) (at-loop .loop .at) _ _ (sym (at-step-at .step-at .ensures) ∙ at-id .id .given .1)
 
 loop-less : tie.Need-loop-less Inv-loop μ-loop
 loop-less c =
-    let h = record-within (c .before .before .before .before .before .before .before .args .sheet .now) (c .before .before .before .before .before .loop .at) _ _ (sym (c .before .before .before .before .step-at .ensures) ∙ c .before .before .id .given .1) in
+    let at-id = c .before .before in
+    let at-step-at = at-id .before .before in
+    let at-loop = at-step-at .before in
+    let start = at-loop .before .before in
+    let h = record-within (start .args .sheet .now) (at-loop .loop .at) _ _ (sym (at-step-at .step-at .ensures) ∙ at-id .id .given .1) in
     omega arith
 
 pub last-angle-spec : {M : Type 1} → statement M

@@ -11,8 +11,11 @@ use Rattle.listing.proofs.main.Tie as tie
 
 part-list-end : tie.Need-part-list-end
 part-list-end c =
-    let l = c .before .before .before .before .before .load in
-    let h = subst (λ (r : Loaded). Within r (length (c .before .before .before .before .before .before .before .before .stream-buffer .result))) (c .before .before .n .given .1) (l .ensures) in
+    let at-n = c .before .before in
+    let at-load = at-n .before .before .before in
+    let at-stream-buffer = at-load .before .before .before in
+    let l = at-load .load in
+    let h = subst (λ (r : Loaded). Within r (length (at-stream-buffer .stream-buffer .result))) (at-n .n .given .1) (l .ensures) in
     omega (arith, l .kept .1 .0, h)
 
 pub main-spec : {M : Type 1} → statement M

@@ -22,13 +22,16 @@ loop-holds c = (search needs, blocks-none compressed _ _)
 
 loop-again : tie.Need-loop-again Inv-loop μ-loop
 loop-again c =
-    let l = c .before .before .loop in
-    let a = c .before .before .before .before .args in
+    let at-loop = c .before .before in
+    let start = at-loop .before .before in
+    let l = at-loop .loop in
+    let a = start .args in
     (search needs, blocks-turn compressed (a .h) (a .m .now) (l .i) (l .v) (c .compress-at .result) (l .inv .1) (c .compress-at .ensures))
 
 returns : tie.Need-returns Inv-loop μ-loop
 returns c =
-    let a = c .before .before .before .args in
+    let start = c .before .before .before in
+    let a = start .args in
     let e : c .before .loop .i ≡ length (a .m .now) / 64 = omega arith in
     c .before .loop .inv .1 ∙ ap (λ (n : ℕ). blocks compressed (a .h) (a .m .now) n) e
 

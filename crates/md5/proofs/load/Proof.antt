@@ -24,9 +24,15 @@ loop-holds c = (search needs, search needs, none-loaded _)
 
 loop-again : tie.Need-loop-again Inv-loop μ-loop
 loop-again c =
-    let l = c .before .before .before .before .before .before .loop in
-    let a = c .before .before .before .before .before .before .before .before .args in
-    (search needs, search needs, load-more (a .m .now) (l .x) (a .at) (l .i) (c .from-le-bytes .result) (search needs) (l .inv .1) (l .inv .2) (c .from-le-bytes .ensures))
+    let at-loop = c .before .before .before .before .before .before in
+    let start = at-loop .before .before in
+    let l = at-loop .loop in
+    let a = start .args in (
+      search needs,
+      search needs,
+      load-more (a .m .now) (l .x) (a .at) (l .i) (c .from-le-bytes .result) (search needs) (l .inv .1) (l .inv .2)
+          (c .from-le-bytes .ensures),
+    )
 
 returns : tie.Need-returns Inv-loop μ-loop
 returns c =

@@ -8,8 +8,10 @@ use Rattle.md5.proofs.to_bytes.Tie as tie
 returns : tie.Need-returns
 unfolding output
 returns c =
-    let a = c .before .before .before .to-le-bytes .ensures in
-    let b = c .before .before .to-le-bytes2 .ensures in
+    let at-to-le-bytes2 = c .before .before in
+    let at-to-le-bytes = at-to-le-bytes2 .before in
+    let a = at-to-le-bytes .to-le-bytes .ensures in
+    let b = at-to-le-bytes2 .to-le-bytes2 .ensures in
     let d = c .before .to-le-bytes3 .ensures in
     let e = c .to-le-bytes4 .ensures in
     rw (a, b, d, e)

@@ -11,9 +11,12 @@ use Rattle.padding.proofs.pad.Tie as tie
 
 returns : tie.Need-returns
 returns c =
-    let a = c .before .before .before .before .args in
-    let g : c .put-size .result ≡ paste (set (c .before .rest .result) (length (a .m .now) % 64) 128) (c .before .before .tail-len .result - 8) (a .size) 8 = c .put-size .ensures in
-    made (a .m .now) (a .size) (c .put-size .result) (c .before .before .tail-len .result) (search needs) (c .before .before .tail-len .ensures) (rw (c .before .rest .ensures) at g)
+    let at-tail-len = c .before .before in
+    let start = at-tail-len .before .before in
+    let a = start .args in
+    let g : c .put-size .result ≡ paste (set (c .before .rest .result) (length (a .m .now) % 64) 128) (at-tail-len .tail-len .result - 8)
+    (a .size) 8 = c .put-size .ensures in
+    made (a .m .now) (a .size) (c .put-size .result) (at-tail-len .tail-len .result) (search needs) (at-tail-len .tail-len .ensures) (rw (c .before .rest .ensures) at g)
 
 pub pad-spec : {M : Type 1} → statement M
 pad-spec =

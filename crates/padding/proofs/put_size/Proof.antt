@@ -21,11 +21,16 @@ loop-holds c = (search needs, search needs, paste-zero (c .args .t1) (c .args .a
 
 loop-again : tie.Need-loop-again Inv-loop μ-loop
 loop-again c =
-    let a = c .before .before .args in
+    let start = c .before .before in
+    let a = start .args in
     let i = c .before .loop .i in
     let g : length (a .t1) ≡ 128 = search needs in
-    let g′ : length (a .t3) ≡ 8 = search needs in
-    (search needs, search needs, copy-more (a .t1) (a .at) (a .t3) i (c .before .loop .bytes) (getD (a .t3) i 0) (omega arith) (omega arith) (c .before .loop .inv .2) refl)
+    let g′ : length (a .t3) ≡ 8 = search needs in (
+      search needs,
+      search needs,
+      copy-more (a .t1) (a .at) (a .t3) i (c .before .loop .bytes) (getD (a .t3) i 0) (omega arith) (omega arith)
+          (c .before .loop .inv .2) refl,
+    )
 
 returns : tie.Need-returns Inv-loop μ-loop
 returns c =

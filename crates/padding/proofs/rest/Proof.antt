@@ -18,12 +18,15 @@ abbrev μ-loop : tie.MeasureT-loop
 
 loop-again : tie.Need-loop-again Inv-loop μ-loop
 loop-again c =
-    let m = c .before .before .before .args .m .now in
+    let at-loop = c .before .before in
+    let loop = at-loop .loop in
+    let start = at-loop .before in
+    let m = start .args .m .now in
     let from = length m - length m % 64 in
-    let i = c .before .before .loop .i in
+    let i = loop .i in
     let h : i < 128 = omega arith in
     let k : from + i < length m = omega arith in
-    (search needs, search needs, copy-from (replicate 128 0) m from i (c .before .before .loop .bytes) (getD m (from + i) 0) h k (c .before .before .loop .inv .2) refl)
+    (search needs, search needs, copy-from (replicate 128 0) m from i (loop .bytes) (getD m (from + i) 0) h k (loop .inv .2) refl)
 
 returns : tie.Need-returns Inv-loop μ-loop
 returns c =

@@ -23,11 +23,15 @@ abbrev μ-loop : tie.MeasureT-loop
 
 -- what the step found
 told : (c : tie.After-known-told Inv-loop μ-loop)
-    → Steps (c .before .before .before .before .before .before .before .before .args .text .now) (c .before .before .before .before .before .loop .at) (c .before .before .before .before .before .loop .skip)
+    → Steps (c .before .before .before .before .before .before .before .before .args .text .now) (c .before .before .before .before .before .loop .at)
+    (c .before .before .before .before .before .loop .skip)
     (Byte (c .before .byte .given .0 .0) (c .before .byte .given .0 .1 .0) (c .before .byte .given .0 .1 .1 .0))
 told c =
-    let l = c .before .before .before .before .before .loop in
-    subst (λ (r : Step). Steps (c .before .before .before .before .before .before .before .before .args .text .now) (l .at) (l .skip) r) (c .before .byte .given .1) (c .before .before .before .next-byte .ensures)
+    let at-next-byte = c .before .before .before in
+    let at-loop = at-next-byte .before .before in
+    let start′ = at-loop .before .before .before in
+    let l = at-loop .loop in
+    subst (λ (r : Step). Steps (start′ .args .text .now) (l .at) (l .skip) r) (c .before .byte .given .1) (at-next-byte .next-byte .ensures)
 
 loop-holds : tie.Need-loop-holds Inv-loop μ-loop
 loop-holds c = let p = c .before .before .pre in (p .1, p .2, p .0, omega arith, λ m w. w)
@@ -40,18 +44,26 @@ loop-again c =
     (omega arith, t .0, simp length-set (i .2), omega arith, λ m w. goes-more _ _ _ _ _ _ _ _ (omega arith) t m (i .4 m w))
 
 same-length : tie.Need-same-length Inv-loop μ-loop
-same-length c = c .before .before .before .before .loop .inv .2 ∙ sym (c .before .before .before .before .before .before .before .pre .0)
+same-length c =
+    let at-loop = c .before .before .before .before in
+    let start′ = at-loop .before .before .before in
+    at-loop .loop .inv .2 ∙ sym (start′ .pre .0)
 
 returns : tie.Need-returns Inv-loop μ-loop
 returns c =
-    let l = c .before .before .before .before .loop in
+    let at-next-byte = c .before .before in
+    let at-loop = at-next-byte .before .before in
+    let start′ = at-loop .before .before .before in
+    let l = at-loop .loop in
     let i = l .inv in
-    let s = c .before .before .before .before .before .before .before .args .text .now in
-    let t : Steps s (l .at) (l .skip) Done = subst (λ (r : Step). Steps s (l .at) (l .skip) r) (c .enum-told .given .1) (c .before .before .next-byte .ensures) in
+    let s = start′ .args .text .now in
+    let t : Steps s (l .at) (l .skip) Done = subst (λ (r : Step). Steps s (l .at) (l .skip) r) (c .enum-told .given .1) (at-next-byte .next-byte .ensures) in
     record { room = i .0; inner = i .1; fewer = i .3; goes = i .4; all = λ h m w. goes-all s _ _ _ _ t m (i .4 m w) }
 
 same-length-2 : tie.Need-same-length-2 Inv-loop μ-loop
-same-length-2 c = c .before .loop .inv .2 ∙ sym (c .before .before .before .before .pre .0)
+same-length-2 c =
+    let start′ = c .before .before .before .before in
+    c .before .loop .inv .2 ∙ sym (start′ .pre .0)
 
 returns-2 : tie.Need-returns-2 Inv-loop μ-loop
 returns-2 c =

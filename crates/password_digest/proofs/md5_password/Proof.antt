@@ -21,20 +21,39 @@ returns : tie.Need-returns
 returns c = too-short _ 16 _ _ (c .if1 .taken)
 
 slice-aggregate-md5-text : tie.Need-slice-aggregate-md5-text
-slice-aggregate-md5-text c = sym (length-take-le 64 (c .before .before .before .before .before .before .before .before .args .scratch .now) (c .before .before .before .before .before .if1 .left))
+slice-aggregate-md5-text c =
+    let at-if1 = c .before .before .before .before .before in
+    let start′ = at-if1 .before .before .before in
+    sym (length-take-le 64 (start′ .args .scratch .now) (at-if1 .if1 .left))
 
 md5-text-requires : tie.Need-md5-text-requires
-md5-text-requires c κs = length-take-le 64 (c .before .before .before .before .before .before .before .before .args .scratch .now) (c .before .before .before .before .before .if1 .left)
+md5-text-requires c κs =
+    let at-if1 = c .before .before .before .before .before in
+    let start′ = at-if1 .before .before .before in
+    length-take-le 64 (start′ .args .scratch .now) (at-if1 .if1 .left)
 
 returns-2 : tie.Need-returns-2
 returns-2 c =
-    let a = c .before .before .before .before .before .before .before .before .before .before .before .before .before .before .before .args in
-    let sp = is-spelt (a .password .now) _ (sym (c .before .before .before .before .before .before .before .before .before .len .given .1) ∙ c .before .before .before .before .before .before .before .before .before .before .before .utf16le-len .ensures) in
-    let t = c .before .before .before .before .before .before .md5-text in
-    digested (md5Of (a .password .now)) 16 (a .password .now) (a .scratch .now) (c .before .before .before .before .before .before .before .before .before .before .before .before .if1 .left) (t .result) (t .last .1 .0) (c .before .before .clear .last .0) (sp .formed) (t .ensures (spelt (a .password .now)) (sp .bytes) ∙ hashed _ _ (sp .count)) (t .kept .1 .0) (c .before .before .clear .ensures)
+    let at-clear = c .before .before in
+    let at-md5-text = at-clear .before .before .before .before in
+    let at-len = at-md5-text .before .before .before in
+    let at-utf16le-len = at-len .before .before in
+    let at-if1 = at-utf16le-len .before in
+    let start′ = at-if1 .before .before .before in
+    let a = start′ .args in
+    let sp = is-spelt (a .password .now) _ (sym (at-len .len .given .1) ∙ at-utf16le-len .utf16le-len .ensures) in
+    let t = at-md5-text .md5-text in
+    digested (md5Of (a .password .now)) 16 (a .password .now) (a .scratch .now) (at-if1 .if1 .left) (t .result) (t .last .1 .0) (at-clear .clear .last .0)
+    (sp .formed) (t .ensures (spelt (a .password .now)) (sp .bytes) ∙ hashed _ _ (sp .count)) (t .kept .1 .0) (at-clear .clear .ensures)
 
 returns-3 : tie.Need-returns-3
-returns-3 c = malformed _ 16 _ _ (c .before .before .before .before .before .before .before .if1 .left) (c .before .before .clear2 .last .0) (not-spelt _ (sym (c .before .before .before .before .enum-told .given .1) ∙ c .before .before .before .before .before .before .utf16le-len .ensures)) (c .before .before .clear2 .ensures)
+returns-3 c =
+    let at-clear2 = c .before .before in
+    let at-enum-told = at-clear2 .before .before in
+    let at-utf16le-len = at-enum-told .before .before in
+    let at-if1 = at-utf16le-len .before in
+    malformed _ 16 _ _ (at-if1 .if1 .left) (at-clear2 .clear2 .last .0)
+    (not-spelt _ (sym (at-enum-told .enum-told .given .1) ∙ at-utf16le-len .utf16le-len .ensures)) (at-clear2 .clear2 .ensures)
 
 pub md5-password-spec : {M : Type 1} → statement M
 md5-password-spec =

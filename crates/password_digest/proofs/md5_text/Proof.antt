@@ -19,7 +19,8 @@ use Rattle.password_digest.proofs.md5_text.Tie as tie
 
 abbrev Inv-loop : tie.InvT-loop
 Inv-loop text block₀ total h₀ f₀ block h f =
-    (f .n ≤ 64) × (f .skip < 4) × (length block ≡ 64) × ((m : List ℕ) → Hashes compressed le64 total text h₀ m h₀ block₀ (f₀ .at) (f₀ .skip) (f₀ .n) → Hashes compressed le64 total text h₀ m h block (f .at) (f .skip) (f .n))
+    (f .n ≤ 64) × (f .skip < 4) × (length block ≡ 64) × ((m : List ℕ) → Hashes compressed le64 total text h₀ m h₀ block₀ (f₀ .at) (f₀ .skip)
+    (f₀ .n) → Hashes compressed le64 total text h₀ m h block (f .at) (f .skip) (f .n))
 
 abbrev μ-loop : tie.MeasureT-loop
 μ-loop text block₀ total h₀ f₀ block h f = left text (f .at) (f .skip) + f .n
@@ -29,33 +30,54 @@ fill-requires c κs = (c .before .before .before .before .pre, omega arith, omeg
 
 loop-holds : tie.Need-loop-holds Inv-loop μ-loop
 loop-holds c =
-    let f = c .before .before .fill in
-    (f .ensures .room, f .ensures .inner, f .kept .1 .1 .1 .0 ∙ c .before .before .before .before .before .before .before .pre, λ m w. w)
+    let at-fill = c .before .before in
+    let start = at-fill .before .before .before .before .before in
+    let f = at-fill .fill in
+    (f .ensures .room, f .ensures .inner, f .kept .1 .1 .1 .0 ∙ start .pre, λ m w. w)
 
 fill-requires-2 : tie.Need-fill-requires-2 Inv-loop μ-loop
 fill-requires-2 c κs = let i = c .before .before .before .before .before .loop .inv in (i .2, omega arith, i .1)
 
 loop-less : tie.Need-loop-less Inv-loop μ-loop
-loop-less c = let f = c .before .before .fill2 .ensures .fewer in let n = c .before .before .before .before .before .before .if1 .taken in omega arith
+loop-less c =
+    let at-fill2 = c .before .before in
+    let at-if1 = at-fill2 .before .before .before .before in
+    let f = at-fill2 .fill2 .ensures .fewer in let n = at-if1 .if1 .taken in omega arith
 
 loop-again : tie.Need-loop-again Inv-loop μ-loop
 loop-again c =
-    let f = c .before .before .fill2 in
-    let i = c .before .before .before .before .before .before .before .before .loop .inv in
-    (f .ensures .room, f .ensures .inner, f .kept .1 .1 .1 .0 ∙ i .2, λ m w. hashes-more compressed le64 _ _ _ m length-le64 (i .2) (c .before .before .before .before .before .before .if1 .taken) (i .3 m w) (c .before .before .before .before .compress-all .ensures) (f .ensures))
+    let at-fill2 = c .before .before in
+    let at-compress-all = at-fill2 .before .before in
+    let at-if1 = at-compress-all .before .before in
+    let at-loop = at-if1 .before .before in
+    let f = at-fill2 .fill2 in
+    let i = at-loop .loop .inv in (
+      f .ensures .room,
+      f .ensures .inner,
+      f .kept .1 .1 .1 .0 ∙ i .2,
+      λ m w. hashes-more compressed le64 _ _ _ m length-le64 (i .2) (at-if1 .if1 .taken)
+          (i .3 m w) (at-compress-all .compress-all .ensures) (f .ensures),
+    )
 
 slice-aggregate-finish : tie.Need-slice-aggregate-finish Inv-loop μ-loop
 slice-aggregate-finish c = let l = c .before .before .before .loop in let i = l .inv in sym (length-take-le (l .f .n) (l .block) (omega arith))
 
 same-length : tie.Need-same-length Inv-loop μ-loop
-same-length c = c .before .before .before .before .loop .inv .2 ∙ sym (c .before .before .before .before .before .before .before .before .before .before .before .before .pre)
+same-length c =
+    let at-loop = c .before .before .before .before in
+    let start = at-loop .before .before .before .before .before .before .before .before in
+    at-loop .loop .inv .2 ∙ sym (start .pre)
 
 returns : tie.Need-returns Inv-loop μ-loop
 returns c e g =
-    let a = c .before .before .before .before .before .before .before .before .before .before .before .before .args in
-    let i = c .before .before .before .before .before .before .before .before .before .init in
-    let f = c .before .before .before .before .before .before .before .fill in
-    let l = c .before .before .before .before .loop in
+    let at-loop = c .before .before .before .before in
+    let at-fill = at-loop .before .before .before in
+    let at-init = at-fill .before .before in
+    let start = at-init .before .before .before in
+    let a = start .args in
+    let i = at-init .init in
+    let f = at-fill .fill in
+    let l = at-loop .loop in
     let r = l .inv .0 in
     let k : l .f .n < 64 = omega arith in
     let w = hashes-first compressed le64 (a .total) (a .text .now) (i .result) e (f .ensures) (goes-start (a .text .now) e (a .block .now) g) in

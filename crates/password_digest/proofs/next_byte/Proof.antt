@@ -12,19 +12,24 @@ use Rattle.password_digest.proofs.next_byte.Tie as tie
 
 -- the character that was read
 found : (c : tie.After-utf16le) → charAt (c .before .before .before .before .before .before .args .text .now) (c .before .before .before .before .before .before .args .at) ≡ Point (c .before .before .point .given .0 .0) (c .before .before .point .given .0 .1 .0)
-found c = sym (c .before .before .before .before .char-at .ensures) ∙ c .before .before .point .given .1
+found c =
+    let at-point = c .before .before in
+    let at-char-at = at-point .before .before in
+    sym (at-char-at .char-at .ensures) ∙ at-point .point .given .1
 
 returns : tie.Need-returns
 returns c =
     let d = c .before .before .before in
     let a = d .before .before .before .before .before .before .args in
-    stays (a .text .now) (a .at) (a .skip) _ _ (found d) (d .utf16le .result) (spells _ _ (d .utf16le .ensures)) (d .before .before .before .before .before .before .pre) (omega arith)
+    stays (a .text .now) (a .at) (a .skip) _ _ (found d) (d .utf16le .result) (spells _ _ (d .utf16le .ensures))
+    (d .before .before .before .before .before .before .pre) (omega arith)
 
 returns-2 : tie.Need-returns-2
 returns-2 c =
     let d = c .before .before .before in
     let a = d .before .before .before .before .before .before .args in
-    moves (a .text .now) (a .at) (a .skip) _ _ (found d) (d .utf16le .result) (spells _ _ (d .utf16le .ensures)) (d .before .before .before .before .before .before .pre) (omega arith)
+    moves (a .text .now) (a .at) (a .skip) _ _ (found d) (d .utf16le .result) (spells _ _ (d .utf16le .ensures))
+    (d .before .before .before .before .before .before .pre) (omega arith)
 
 returns-3 : tie.Need-returns-3
 returns-3 c = breaks _ _ _ (sym (c .before .before .char-at .ensures) ∙ c .enum-told .given .1)

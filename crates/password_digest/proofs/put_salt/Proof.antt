@@ -31,7 +31,8 @@ slice-write-block c = rw (long (c .before)) (omega arith)
 
 loop-again : tie.Need-loop-again Inv-loop μ-loop
 loop-again c =
-    let a = c .before .before .args in
+    let start = c .before .before in
+    let a = start .args in
     let i = c .before .loop .inv in
     let k = c .before .loop .i in
     let z : 0 + k ≡ k = zero-add k in

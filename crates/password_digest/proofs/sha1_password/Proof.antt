@@ -33,21 +33,42 @@ returns : tie.Need-returns
 returns c = too-short _ 20 _ _ (c .if1 .taken)
 
 slice-aggregate-sha1-text : tie.Need-slice-aggregate-sha1-text
-slice-aggregate-sha1-text c = sym (length-take-le 64 (c .before .before .before .before .before .before .before .before .before .args .scratch .now) (c .before .before .before .before .before .before .if1 .left))
+slice-aggregate-sha1-text c =
+    let at-if1 = c .before .before .before .before .before .before in
+    let start′ = at-if1 .before .before .before in
+    sym (length-take-le 64 (start′ .args .scratch .now) (at-if1 .if1 .left))
 
 sha1-text-requires : tie.Need-sha1-text-requires
-sha1-text-requires c κs = length-take-le 64 (c .before .before .before .before .before .before .before .before .before .args .scratch .now) (c .before .before .before .before .before .before .if1 .left)
+sha1-text-requires c κs =
+    let at-if1 = c .before .before .before .before .before .before in
+    let start′ = at-if1 .before .before .before in
+    length-take-le 64 (start′ .args .scratch .now) (at-if1 .if1 .left)
 
 returns-2 : tie.Need-returns-2
 returns-2 c =
-    let a = c .before .before .before .before .before .before .before .before .before .before .before .before .before .before .before .before .args in
-    let sp = is-spelt (a .password .now) _ (sym (c .before .before .before .before .before .before .before .before .before .before .len .given .1) ∙ c .before .before .before .before .before .before .before .before .before .before .before .before .utf16le-len .ensures) in
-    let t = c .before .before .before .before .before .before .sha1-text in
+    let at-clear = c .before .before in
+    let at-sha1-text = at-clear .before .before .before .before in
+    let at-wrapping-add-u64 = at-sha1-text .before .before in
+    let at-len = at-wrapping-add-u64 .before .before in
+    let at-utf16le-len = at-len .before .before in
+    let at-if1 = at-utf16le-len .before in
+    let start′ = at-if1 .before .before .before in
+    let a = start′ .args in
+    let sp = is-spelt (a .password .now) _ (sym (at-len .len .given .1) ∙ at-utf16le-len .utf16le-len .ensures) in
+    let t = at-sha1-text .sha1-text in
     let e = spelt (a .password .now) in
-    digested (sha1Of (a .salt) (a .password .now)) 20 (a .password .now) (a .scratch .now) (c .before .before .before .before .before .before .before .before .before .before .before .before .before .if1 .left) (t .result) (t .last .1 .1 .0) (c .before .before .clear .last .0) (sp .formed) (t .ensures e (sp .bytes) ∙ hashed (a .salt) e _ _ (sixteen (c .before .before .before .before .before .before .before .before .before .before .before .before .before .before .before .before)) (sp .count) (c .before .before .before .before .before .before .before .before .wrapping-add-u64 .ensures)) (t .kept .1 .1 .0) (c .before .before .clear .ensures)
+    digested (sha1Of (a .salt) (a .password .now)) 20 (a .password .now) (a .scratch .now) (at-if1 .if1 .left) (t .result) (t .last .1 .1 .0)
+    (at-clear .clear .last .0) (sp .formed) (t .ensures e (sp .bytes) ∙ hashed (a .salt) e _ _ (sixteen start′) (sp .count)
+    (at-wrapping-add-u64 .wrapping-add-u64 .ensures)) (t .kept .1 .1 .0) (at-clear .clear .ensures)
 
 returns-3 : tie.Need-returns-3
-returns-3 c = malformed _ 20 _ _ (c .before .before .before .before .before .before .before .if1 .left) (c .before .before .clear2 .last .0) (not-spelt _ (sym (c .before .before .before .before .enum-told .given .1) ∙ c .before .before .before .before .before .before .utf16le-len .ensures)) (c .before .before .clear2 .ensures)
+returns-3 c =
+    let at-clear2 = c .before .before in
+    let at-enum-told = at-clear2 .before .before in
+    let at-utf16le-len = at-enum-told .before .before in
+    let at-if1 = at-utf16le-len .before in
+    malformed _ 20 _ _ (at-if1 .if1 .left) (at-clear2 .clear2 .last .0)
+    (not-spelt _ (sym (at-enum-told .enum-told .given .1) ∙ at-utf16le-len .utf16le-len .ensures)) (at-clear2 .clear2 .ensures)
 
 pub sha1-password-spec : {M : Type 1} → statement M
 sha1-password-spec =

@@ -25,17 +25,22 @@ loop-holds c =
 
 shared-slice-read-wide : tie.Need-shared-slice-read-wide Inv-loop μ-loop
 shared-slice-read-wide c =
+    let start = c .before .before .before .before .before .before .before in
     let n = c .before .key-index in
-    let h : 0 < length (c .before .before .before .before .before .before .before .args .key .now) = c .before .before .before .before .before .before .before .pre in
+    let h : 0 < length (start .args .key .now) = start .pre in
     rw (n .ensures) (mod-lt _ h)
 
 loop-again : tie.Need-loop-again Inv-loop μ-loop
 loop-again c =
-    let l = c .before .before .before .before .before .loop in
-    let key = c .before .before .before .before .before .before .before .before .args .key .now in
-    let n = c .before .before .key-index in
+    let at-key-index = c .before .before in
+    let at-wide = at-key-index .before in
+    let at-loop = at-wide .before .before in
+    let start = at-loop .before .before .before in
+    let l = at-loop .loop in
+    let key = start .args .key .now in
+    let n = at-key-index .key-index in
     let w = c .wide2 in
-    let v = c .before .before .before .wide in
+    let v = at-wide .wide in
     let j = (l .j + v .result + w .result) % 256 in
     let g : j ≡ (l .j + getD (l .t) (l .i) 0 + getD key (l .i % length key) 0) % 256 = rw (v .ensures .0, w .ensures .0, n .ensures) refl in
     (search needs, search needs, mod-lt _ (lit< tt), mixing-more key (l .t) (l .i) (l .j) j (l .inv .3) g)

@@ -20,34 +20,52 @@ abbrev μ-loop : tie.MeasureT-loop
 
 loop-holds : tie.Need-loop-holds Inv-loop μ-loop
 loop-holds c =
+    let start = c .before .before .before .before in
     let e = c .before .unmixed .ensures in
     let f = c .unmixed2 .ensures in
-    (search needs, search needs, search needs, search needs, search needs, rw e (mixing-none (c .before .before .before .before .args .key .now)), rw f (mixing-none (c .before .before .before .before .args .other .now)))
+    (search needs, search needs, search needs, search needs, search needs, rw e (mixing-none (start .args .key .now)), rw f (mixing-none (start .args .other .now)))
 
 shared-slice-read-wide : tie.Need-shared-slice-read-wide Inv-loop μ-loop
 shared-slice-read-wide c =
-    let h : 0 < length (c .before .before .before .before .before .before .before .before .before .args .key .now) = c .before .before .before .before .before .before .before .before .before .pre .0 in
+    let start = c .before .before .before .before .before .before .before .before .before in
+    let h : 0 < length (start .args .key .now) = start .pre .0 in
     rw (c .before .key-index .ensures) (mod-lt _ h)
 
 shared-slice-read-wide-2 : tie.Need-shared-slice-read-wide-2 Inv-loop μ-loop
 shared-slice-read-wide-2 c =
-    let h : 0 < length (c .before .before .before .before .before .before .before .before .before .before .before .before .before .args .other .now) = c .before .before .before .before .before .before .before .before .before .before .before .before .before .pre .1 in
+    let start = c .before .before .before .before .before .before .before .before .before .before .before .before .before in
+    let h : 0 < length (start .args .other .now) = start .pre .1 in
     rw (c .before .key-index2 .ensures) (mod-lt _ h)
 
 loop-again : tie.Need-loop-again Inv-loop μ-loop
 loop-again c =
-    let l = c .before .before .before .before .before .before .before .before .before .loop in
-    let key = c .before .before .before .before .before .before .before .before .before .before .before .before .before .before .args .key .now in
-    let other = c .before .before .before .before .before .before .before .before .before .before .before .before .before .before .args .other .now in
-    let a = c .before .before .before .before .before .before .before .wide in
-    let b = c .before .before .before .before .wide2 in
-    let d = c .before .before .before .wide3 in
+    let at-key-index2 = c .before .before in
+    let at-wide3 = at-key-index2 .before in
+    let at-wide2 = at-wide3 .before in
+    let at-key-index = at-wide2 .before .before in
+    let at-wide = at-key-index .before in
+    let at-loop = at-wide .before .before in
+    let start = at-loop .before .before .before .before .before in
+    let l = at-loop .loop in
+    let key = start .args .key .now in
+    let other = start .args .other .now in
+    let a = at-wide .wide in
+    let b = at-wide2 .wide2 in
+    let d = at-wide3 .wide3 in
     let e = c .wide4 in
     let j = (l .j + a .result + b .result) % 256 in
     let v = (l .v + d .result + e .result) % 256 in
-    let g : j ≡ (l .j + getD (l .s) (l .i) 0 + getD key (l .i % length key) 0) % 256 = rw (a .ensures .0, b .ensures .0, c .before .before .before .before .before .before .key-index .ensures) refl in
-    let h : v ≡ (l .v + getD (l .t) (l .i) 0 + getD other (l .i % length other) 0) % 256 = rw (d .ensures .0, e .ensures .0, c .before .before .key-index2 .ensures) refl in
-    (search needs, search needs, search needs, mod-lt _ (lit< tt), mod-lt _ (lit< tt), mixing-more key (l .s) (l .i) (l .j) j (l .inv .5) g, mixing-more other (l .t) (l .i) (l .v) v (l .inv .6) h)
+    let g : j ≡ (l .j + getD (l .s) (l .i) 0 + getD key (l .i % length key) 0) % 256 = rw (a .ensures .0, b .ensures .0, at-key-index .key-index .ensures) refl in
+    let h : v ≡ (l .v + getD (l .t) (l .i) 0 + getD other (l .i % length other) 0) % 256 = rw (d .ensures .0, e .ensures .0, at-key-index2 .key-index2 .ensures) refl in (
+      search needs,
+      search needs,
+      search needs,
+      mod-lt _ (lit< tt),
+      mod-lt _ (lit< tt),
+      mixing-more key (l .s) (l .i) (l .j) j (l .inv .5) g,
+      mixing-more other
+          (l .t) (l .i) (l .v) v (l .inv .6) h,
+    )
 
 returns : tie.Need-returns Inv-loop μ-loop
 returns c =

@@ -22,17 +22,30 @@ some-bytes key e =
 
 keyed-table : (key t : List ℕ) → within 5 16 (length key) ≡ true → t ≡ mixing key 256 .table → record { ok = true; keystream = record { table = t; i = 0; j = 0 } } ≡ made key
 keyed-table key t e g =
-    ap (λ (u : List ℕ). record { ok = true; keystream = record { table = u; i = 0; j = 0 } }) g ∙ made-keyed key (within-from 5 16 (length key) e) (within-to 5 16 (length key) e)
+    ap (λ (u : List ℕ). record { ok = true; keystream = record { table = u; i = 0; j = 0 } }) g ∙ made-keyed key (within-from 5 16 (length key) e)
+    (within-to 5 16 (length key) e)
 
 mixed-both-requires : tie.Need-mixed-both-requires
 mixed-both-requires c κs =
-    (some-bytes (c .before .before .before .before .before .before .args .key .now) (sym (c .before .before .before .fits2 .ensures) ∙ c .before .before .if1 .taken), some-bytes (c .before .before .before .before .before .before .args .other .now) (sym (c .before .fits3 .ensures) ∙ c .if2 .taken))
+    let at-if1 = c .before .before in
+    let at-fits2 = at-if1 .before in
+    let start = at-fits2 .before .before .before in (
+      some-bytes (start .args .key .now) (sym (at-fits2 .fits2 .ensures) ∙ at-if1 .if1 .taken),
+      some-bytes (start .args .other .now)
+          (sym (c .before .fits3 .ensures) ∙ c .if2 .taken),
+    )
 
 returns : tie.Need-returns
-returns c = (
-  keyed-table (c .before .before .before .before .before .before .before .before .before .args .key .now) _ (sym (c .before .before .before .before .before .before .fits2 .ensures) ∙ c .before .before .before .before .before .if1 .taken) (c .before .before .mixed-both .ensures .0),
-  keyed-table (c .before .before .before .before .before .before .before .before .before .args .other .now) _ (sym (c .before .before .before .before .fits3 .ensures) ∙ c .before .before .before .if2 .taken) (c .before .before .mixed-both .ensures .1),
-)
+returns c =
+    let at-mixed-both = c .before .before in
+    let at-if2 = at-mixed-both .before in
+    let at-fits3 = at-if2 .before in
+    let at-if1 = at-fits3 .before in
+    let at-fits2 = at-if1 .before in
+    let start = at-fits2 .before .before .before in (
+      keyed-table (start .args .key .now) _ (sym (at-fits2 .fits2 .ensures) ∙ at-if1 .if1 .taken) (at-mixed-both .mixed-both .ensures .0),
+      keyed-table (start .args .other .now) _ (sym (at-fits3 .fits3 .ensures) ∙ at-if2 .if2 .taken) (at-mixed-both .mixed-both .ensures .1),
+    )
 
 pub new-pair-spec : {M : Type 1} → statement M
 new-pair-spec =

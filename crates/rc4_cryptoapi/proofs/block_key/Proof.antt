@@ -16,7 +16,8 @@ use Rattle.rc4_cryptoapi.proofs.block_key.Statement.{statement}
 use Rattle.rc4_cryptoapi.proofs.block_key.Tie as tie
 
 module _ (h0 : List ℕ) (bits block : ℕ) (hash bytes : List ℕ) (g : hash ≡ hfinal h0 block) where
-  long : within 48 128 bits ≡ true → bytes ≡ take (bits / 8) hash ++ replicate (16 - bits / 8) 0 → record { bytes = bytes; len = bits / 8 } ≡ derived (blockKey h0 bits block)
+  long : within 48 128 bits ≡ true → bytes ≡ take (bits / 8) hash ++ replicate (16 - bits / 8) 0
+      → record { bytes = bytes; len = bits / 8 } ≡ derived (blockKey h0 bits block)
   long e f = rw (key-long h0 bits block e, length-long h0 bits block e, f, g)
 
   forty : within 48 128 bits ≡ false → bytes ≡ take 5 hash ++ replicate 11 0 → record { bytes = bytes; len = 16 } ≡ derived (blockKey h0 bits block)
@@ -27,15 +28,21 @@ head-requires c κs = let h = within-to 48 128 (c .before .before .before .args 
 
 returns : tie.Need-returns
 returns c =
-    let a = c .before .before .before .before .args in
-    let f = c .before .before .before .final-hash in
-    long (a .h0) (a .key-bits) (a .block) (f .result) (c .head .result) (f .ensures) (sym (c .before .before .long-key .ensures) ∙ c .before .if1 .taken) (c .head .ensures)
+    let at-long-key = c .before .before in
+    let at-final-hash = at-long-key .before in
+    let start = at-final-hash .before in
+    let a = start .args in
+    let f = at-final-hash .final-hash in
+    long (a .h0) (a .key-bits) (a .block) (f .result) (c .head .result) (f .ensures) (sym (at-long-key .long-key .ensures) ∙ c .before .if1 .taken) (c .head .ensures)
 
 returns-2 : tie.Need-returns-2
 returns-2 c =
-    let a = c .before .before .before .before .args in
-    let f = c .before .before .before .final-hash in
-    forty (a .h0) (a .key-bits) (a .block) (f .result) (c .head2 .result) (f .ensures) (sym (c .before .before .long-key .ensures) ∙ c .before .if1 .left) (c .head2 .ensures)
+    let at-long-key = c .before .before in
+    let at-final-hash = at-long-key .before in
+    let start = at-final-hash .before in
+    let a = start .args in
+    let f = at-final-hash .final-hash in
+    forty (a .h0) (a .key-bits) (a .block) (f .result) (c .head2 .result) (f .ensures) (sym (at-long-key .long-key .ensures) ∙ c .before .if1 .left) (c .head2 .ensures)
 
 pub block-key-spec : {M : Type 1} → statement M
 block-key-spec =

@@ -17,11 +17,13 @@ twenty c = search needs
 returns : tie.Need-returns
 unfolding tabulate
 returns c =
-    let a = c .before .before .before .args in
-    let b = c .before .before .to-le-bytes in
+    let at-to-le-bytes = c .before .before in
+    let start = at-to-le-bytes .before in
+    let a = start .args in
+    let b = at-to-le-bytes .to-le-bytes in
     c .digest .ensures
     ∙ ap sha1
-    (ap (λ (l : List ℕ). l ++ (getD (b .result) 0 0 ∷ getD (b .result) 1 0 ∷ getD (b .result) 2 0 ∷ getD (b .result) 3 0 ∷ [])) (listed (a .t1) 20 (twenty (c .before .before .before)))
+    (ap (λ (l : List ℕ). l ++ (getD (b .result) 0 0 ∷ getD (b .result) 1 0 ∷ getD (b .result) 2 0 ∷ getD (b .result) 3 0 ∷ [])) (listed (a .t1) 20 (twenty start))
     ∙ rw (b .ensures))
 
 pub final-hash-spec : {M : Type 1} → statement M

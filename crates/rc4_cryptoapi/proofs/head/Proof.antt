@@ -22,7 +22,8 @@ abbrev μ-loop : tie.MeasureT-loop
 padded : (s : List ℕ) (n : ℕ) → n ≤ 16 → paste (replicate 16 0) 0 s n ≡ take n s ++ replicate (16 - n) 0
 padded s n h =
     let e : 16 ≡ n + (16 - n) = omega arith in
-    let d : drop n (replicate {A = ℕ} 16 0) ≡ replicate (16 - n) 0 = ap (λ (k : ℕ). drop n (replicate {A = ℕ} k 0)) e ∙ rw (← (replicate-append-replicate {A = ℕ} n (16 - n) 0)) (drop-at (replicate n 0) (replicate (16 - n) 0) n (length-replicate n 0)) in
+    let d : drop n (replicate {A = ℕ} 16 0) ≡ replicate (16 - n) 0 = ap (λ (k : ℕ). drop n (replicate {A = ℕ} k 0)) e ∙ rw
+    (← (replicate-append-replicate {A = ℕ} n (16 - n) 0)) (drop-at (replicate n 0) (replicate (16 - n) 0) n (length-replicate n 0)) in
     rw (zero-add n, d)
 
 loop-again : tie.Need-loop-again Inv-loop μ-loop
@@ -35,10 +36,11 @@ loop-again c =
 
 returns : tie.Need-returns Inv-loop μ-loop
 returns c =
-    let a = c .before .before .args in
+    let start′ = c .before .before in
+    let a = start′ .args in
     let l = c .before .loop in
     let e : l .i ≡ a .n = omega arith in
-    l .inv .4 ∙ ap (λ (n : ℕ). paste (replicate 16 0) 0 (a .t1) n) e ∙ padded (a .t1) (a .n) (c .before .before .pre)
+    l .inv .4 ∙ ap (λ (n : ℕ). paste (replicate 16 0) 0 (a .t1) n) e ∙ padded (a .t1) (a .n) (start′ .pre)
 
 pub head-spec : {M : Type 1} → statement M
 head-spec =

@@ -83,7 +83,10 @@ past-1 c a g = past _ (le-leb _ _ (c .if1 .left)) g
 
 past-2 : (c : tie.Else2) → Past (st-2 c) 2
 unfolding asked cryptoApi
-past-2 c a g = past-1 (c .before .before .before) a (past _ (rw (← c .before .before .field .ensures) (sym (c .before .size-fits .ensures) ∙ not-false _ (c .if2 .left))) g)
+past-2 c a g =
+    let at-field = c .before .before in
+    let at-else1 = at-field .before in
+    past-1 at-else1 a (past _ (rw (← at-field .field .ensures) (sym (c .before .size-fits .ensures) ∙ not-false _ (c .if2 .left))) g)
 
 returns : tie.Need-returns
 unfolding asked cryptoApi
@@ -92,8 +95,9 @@ returns c = answer (c .before .before .args .structure .now) EncryptionInfoTrunc
 returns-2 : tie.Need-returns-2
 unfolding asked cryptoApi
 returns-2 c =
-    let d = c .before .before .before in
-    let e = c .before .before .field .ensures in
+    let at-field = c .before .before in
+    let d = at-field .before in
+    let e = at-field .field .ensures in
     answer (st-1 d) EncryptionHeaderSizeOutOfRange e (past-1 d _ (refused _ (rw (← e) (sym (c .before .size-fits .ensures) ∙ not-true _ (c .if2 .taken)))))
 
 past-3 : (c : tie.Else3) → Past (st-3 c) 3
@@ -126,13 +130,16 @@ past-4 c a g = past-3 (c .before .before .before) a (past _ (rw (← flags-4 c) 
 returns-4 : tie.Need-returns-4
 unfolding asked cryptoApi
 returns-4 c =
-    let d = c .before .before .before in
-    let e = c .before .before .field2 .ensures in
+    let at-field2 = c .before .before in
+    let d = at-field2 .before in
+    let e = at-field2 .field2 .ensures in
     answer (st-3 d) FlagExternal e (past-3 d _ (refused _ (rw (← e) (sym (c .before .clear .ensures) ∙ not-true _ (c .if4 .taken)))))
 
 past-5 : (c : tie.Else5) → Past (st-5 c) 5
 unfolding asked cryptoApi
-past-5 c a g = past-4 (c .before .before) a (past _ (rw (← flags-4 (c .before .before)) (sym (c .before .clear2 .ensures) ∙ not-false _ (c .if5 .left))) g)
+past-5 c a g =
+    let at-else4 = c .before .before in
+    past-4 at-else4 a (past _ (rw (← flags-4 at-else4) (sym (c .before .clear2 .ensures) ∙ not-false _ (c .if5 .left))) g)
 
 returns-5 : tie.Need-returns-5
 unfolding asked cryptoApi
@@ -143,7 +150,10 @@ returns-5 c =
 
 past-6 : (c : tie.Else6) → Past (st-6 c) 6
 unfolding asked cryptoApi
-past-6 c a g = past-5 (c .before .before) a (past _ (rw (← flags-4 (c .before .before .before .before), ← c .before .clear3 .ensures, c .if6 .left)) g)
+past-6 c a g =
+    let at-else5 = c .before .before in
+    let at-else4 = at-else5 .before .before in
+    past-5 at-else5 a (past _ (rw (← flags-4 at-else4, ← c .before .clear3 .ensures, c .if6 .left)) g)
 
 returns-6 : tie.Need-returns-6
 unfolding asked cryptoApi
@@ -157,41 +167,57 @@ field-requires-3 c κs = let r = room (c .before .before .before .before .before
 
 past-7 : (c : tie.Else7) → Past (st-7 c) 7
 unfolding asked cryptoApi
-past-7 c a g = past-6 (c .before .before .before) a (past _ (rw (← c .before .before .field3 .ensures) (sym (c .before .zero-or .ensures) ∙ not-false _ (c .if7 .left))) g)
+past-7 c a g =
+    let at-field3 = c .before .before in
+    let at-else6 = at-field3 .before in
+    past-6 at-else6 a (past _ (rw (← at-field3 .field3 .ensures) (sym (c .before .zero-or .ensures) ∙ not-false _ (c .if7 .left))) g)
 
 returns-7 : tie.Need-returns-7
 unfolding asked cryptoApi
 returns-7 c =
-    let d = c .before .before .before in
-    let e = c .before .before .field3 .ensures in
+    let at-field3 = c .before .before in
+    let d = at-field3 .before in
+    let e = at-field3 .field3 .ensures in
     answer (st-6 d) UnsupportedAlgId e (past-6 d _ (refused _ (rw (← e) (sym (c .before .zero-or .ensures) ∙ not-true _ (c .if7 .taken)))))
 
 field-requires-4 : tie.Need-field-requires-4
-field-requires-4 c κs = let r = room (c .before .before .before .before .before .before .before .before .before .before) in omega arith
+field-requires-4 c κs =
+    let at-else3 = c .before .before .before .before .before .before .before .before .before .before in
+    let r = room at-else3 in omega arith
 
 past-8 : (c : tie.Else8) → Past (st-8 c) 8
 unfolding asked cryptoApi
-past-8 c a g = past-7 (c .before .before .before) a (past _ (rw (← c .before .before .field4 .ensures) (sym (c .before .zero-or2 .ensures) ∙ not-false _ (c .if8 .left))) g)
+past-8 c a g =
+    let at-field4 = c .before .before in
+    let at-else7 = at-field4 .before in
+    past-7 at-else7 a (past _ (rw (← at-field4 .field4 .ensures) (sym (c .before .zero-or2 .ensures) ∙ not-false _ (c .if8 .left))) g)
 
 returns-8 : tie.Need-returns-8
 unfolding asked cryptoApi
 returns-8 c =
-    let d = c .before .before .before in
-    let e = c .before .before .field4 .ensures in
+    let at-field4 = c .before .before in
+    let d = at-field4 .before in
+    let e = at-field4 .field4 .ensures in
     answer (st-7 d) UnsupportedAlgIdHash e (past-7 d _ (refused _ (rw (← e) (sym (c .before .zero-or2 .ensures) ∙ not-true _ (c .if8 .taken)))))
 
 field-requires-5 : tie.Need-field-requires-5
-field-requires-5 c κs = let r = room (c .before .before .before .before .before .before .before .before .before .before .before .before .before) in omega arith
+field-requires-5 c κs =
+    let at-else3 = c .before .before .before .before .before .before .before .before .before .before .before .before .before in
+    let r = room at-else3 in omega arith
 
 past-9 : (c : tie.Else9) → Past (st-9 c) 9
 unfolding asked cryptoApi
-past-9 c a g = past-8 (c .before .before .before) a (past _ (rw (← c .before .before .field5 .ensures) (sym (c .before .key-size-fits .ensures) ∙ not-false _ (c .if9 .left))) g)
+past-9 c a g =
+    let at-field5 = c .before .before in
+    let at-else8 = at-field5 .before in
+    past-8 at-else8 a (past _ (rw (← at-field5 .field5 .ensures) (sym (c .before .key-size-fits .ensures) ∙ not-false _ (c .if9 .left))) g)
 
 returns-9 : tie.Need-returns-9
 unfolding asked cryptoApi
 returns-9 c =
-    let d = c .before .before .before in
-    let e = c .before .before .field5 .ensures in
+    let at-field5 = c .before .before in
+    let d = at-field5 .before in
+    let e = at-field5 .field5 .ensures in
     answer (st-8 d) EncryptionHeaderKeySize e (past-8 d _ (refused _ (rw (← e) (sym (c .before .key-size-fits .ensures) ∙ not-true _ (c .if9 .taken)))))
 
 -- the header's size, from where the verifier is read
@@ -209,7 +235,8 @@ returns-10 : tie.Need-returns-10
 unfolding asked cryptoApi
 returns-10 c =
     let d = c .before in
-    answer (st-9 d) (λ (n : ℕ). EncryptionVerifierTruncated (length (st-9 d) - (12 + n))) (size-9 d) (past-9 d _ (refused _ (rw (← size-9 d) (lt-leb _ _ (c .if10 .taken)))))
+    answer (st-9 d) (λ (n : ℕ). EncryptionVerifierTruncated (length (st-9 d) - (12 + n))) (size-9 d)
+    (past-9 d _ (refused _ (rw (← size-9 d) (lt-leb _ _ (c .if10 .taken)))))
 
 salt-11 : (c : tie.After-field6) → c .field6 .result ≡ saltSize (st-10 (c .before))
 salt-11 c = c .field6 .ensures ∙ ap (λ (n : ℕ). le32 (st-10 (c .before)) (12 + n)) (size-9 (c .before .before))
@@ -226,7 +253,9 @@ returns-11 c =
     answer (st-10 d) VerifierSaltSize e (past-10 d _ (refused _ (rw (← e) (ne-eqb _ _ (c .if11 .taken)))))
 
 hash-12 : (c : tie.After-field7) → c .field7 .result ≡ verifierHashSize (st-11 (c .before))
-hash-12 c = c .field7 .ensures ∙ ap (λ (n : ℕ). le32 (st-11 (c .before)) (12 + n + 36)) (size-9 (c .before .before .before .before))
+hash-12 c =
+    let at-else9 = c .before .before .before .before in
+    c .field7 .ensures ∙ ap (λ (n : ℕ). le32 (st-11 (c .before)) (12 + n + 36)) (size-9 at-else9)
 
 past-12 : (c : tie.Else12) → Past (st-12 c) 12
 unfolding asked cryptoApi

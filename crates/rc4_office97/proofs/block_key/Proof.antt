@@ -24,12 +24,14 @@ whole hash block bytes e = rw (key-sixteen hash block, append-nil (blockKey hash
 returns : tie.Need-returns
 unfolding tabulate
 returns c =
-    let a = c .before .before .before .args in
-    let b = c .before .before .to-le-bytes in
+    let at-to-le-bytes = c .before .before in
+    let start = at-to-le-bytes .before in
+    let a = start .args in
+    let b = at-to-le-bytes .to-le-bytes in
     whole (a .t1) (a .block) (c .digest .result)
     (c .digest .ensures
     ∙ ap md5
-    (ap (λ (l : List ℕ). l ++ (getD (b .result) 0 0 ∷ getD (b .result) 1 0 ∷ getD (b .result) 2 0 ∷ getD (b .result) 3 0 ∷ [])) (listed (a .t1) 5 (five (c .before .before .before)))
+    (ap (λ (l : List ℕ). l ++ (getD (b .result) 0 0 ∷ getD (b .result) 1 0 ∷ getD (b .result) 2 0 ∷ getD (b .result) 3 0 ∷ [])) (listed (a .t1) 5 (five start))
     ∙ rw (b .ensures)))
 
 pub block-key-spec : {M : Type 1} → statement M

@@ -15,11 +15,13 @@ use Rattle.rc4_office97.proofs.truncated_h1.Tie as tie
 returns : tie.Need-returns
 unfolding tabulate truncated
 returns c =
+    let at-repeated = c .before .before in
+    let at-unit = at-repeated .before in
     let h = c .digest .result in
-    let r = c .before .before .repeated in
+    let r = at-repeated .repeated in
     let n : length h ≡ 16 = ap length (c .digest .ensures) ∙ length-md5 (r .result) in
     heads h 5 (omega arith)
-    ∙ ap (take 5) (c .digest .ensures ∙ ap md5 (r .ensures ∙ ap (times 16) (c .before .before .before .unit .ensures)))
+    ∙ ap (take 5) (c .digest .ensures ∙ ap md5 (r .ensures ∙ ap (times 16) (at-unit .unit .ensures)))
 
 pub truncated-h1-spec : {M : Type 1} → statement M
 truncated-h1-spec =

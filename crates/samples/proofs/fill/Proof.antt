@@ -15,10 +15,18 @@ abbrev μ-loop : tie.MeasureT-loop
 μ-loop file buffer₀ done₀ buffer done = length buffer₀ - done
 
 same-length : tie.Need-same-length Inv-loop μ-loop
-same-length c = length-back (c .before .before .before .before .before .before .loop .buffer) (c .before .before .before .read .last .1 .0) (c .before .before .before .before .before .before .loop .done) (length (c .before .before .before .before .before .before .loop .buffer) - c .before .before .before .before .before .before .loop .done) (c .before .before .before .before .before .before .loop .inv .0) (c .before .before .before .read .kept .1 .0) ∙ c .before .before .before .before .before .before .loop .inv .1
+same-length c =
+    let at-read = c .before .before .before in
+    let at-loop = at-read .before .before .before in
+    let loop = at-loop .loop in
+    length-back (loop .buffer) (at-read .read .last .1 .0) (loop .done) (length (loop .buffer) - loop .done) (loop .inv .0) (at-read .read .kept .1 .0) ∙ loop .inv .1
 
 same-length-2 : tie.Need-same-length-2 Inv-loop μ-loop
-same-length-2 c = length-back (c .before .before .before .before .before .before .before .before .before .before .loop .buffer) (c .before .before .before .before .before .before .before .read .last .1 .0) (c .before .before .before .before .before .before .before .before .before .before .loop .done) (length (c .before .before .before .before .before .before .before .before .before .before .loop .buffer) - c .before .before .before .before .before .before .before .before .before .before .loop .done) (c .before .before .before .before .before .before .before .before .before .before .loop .inv .0) (c .before .before .before .before .before .before .before .read .kept .1 .0) ∙ c .before .before .before .before .before .before .before .before .before .before .loop .inv .1
+same-length-2 c =
+    let at-read = c .before .before .before .before .before .before .before in
+    let at-loop = at-read .before .before .before in
+    let loop = at-loop .loop in
+    length-back (loop .buffer) (at-read .read .last .1 .0) (loop .done) (length (loop .buffer) - loop .done) (loop .inv .0) (at-read .read .kept .1 .0) ∙ loop .inv .1
 
 pub fill-spec : {M : Type 1} → statement M
 fill-spec =

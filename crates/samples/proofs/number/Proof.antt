@@ -18,11 +18,15 @@ returns c = (skip _ (lt-leb (c .before .before .args .at + 4) (length (c .before
 
 returns-2 : tie.Need-returns-2
 unfolding numberAt
-returns-2 c = (skip _ (lt-leb (c .before .before .before .args .at + 4) (length (c .before .before .before .args .d .now)) (omega arith)) refl, search needs)
+returns-2 c =
+    let start = c .before .before .before in
+    (skip _ (lt-leb (start .args .at + 4) (length (start .args .d .now)) (omega arith)) refl, search needs)
 
 returns-3 : tie.Need-returns-3
 unfolding numberAt le32
-returns-3 c = (c .from-le-bytes .ensures ∙ stop _ (le-leb (c .before .before .before .before .before .before .before .before .args .at + 4) (length (c .before .before .before .before .before .before .before .before .args .d .now)) (omega arith)), search needs)
+returns-3 c =
+    let start = c .before .before .before .before .before .before .before .before in
+    (c .from-le-bytes .ensures ∙ stop _ (le-leb (start .args .at + 4) (length (start .args .d .now)) (omega arith)), search needs)
 
 pub number-spec : {M : Type 1} → statement M
 number-spec =

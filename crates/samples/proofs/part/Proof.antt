@@ -14,11 +14,17 @@ use Rattle.samples.proofs.part.Tie as tie
 
 returns : tie.Need-returns
 unfolding partAt
-returns c = skip _ (lt-leb (c .before .before .args .at + c .before .before .args .len) (length (c .before .before .args .d .now)) (omega arith)) refl
+returns c =
+    let start = c .before .before in
+    let args = start .args in
+    skip _ (lt-leb (args .at + args .len) (length (args .d .now)) (omega arith)) refl
 
 returns-2 : tie.Need-returns-2
 unfolding partAt
-returns-2 c = skip _ (lt-leb (c .before .before .before .args .at + c .before .before .before .args .len) (length (c .before .before .before .args .d .now)) (omega arith)) refl
+returns-2 c =
+    let start = c .before .before .before in
+    let args = start .args in
+    skip _ (lt-leb (args .at + args .len) (length (args .d .now)) (omega arith)) refl
 
 returns-3 : tie.Need-returns-3
 unfolding partAt

@@ -9,7 +9,10 @@ use Rattle.samples.proofs.read.Statement.{statement}
 use Rattle.samples.proofs.read.Tie as tie
 
 returns : tie.Need-returns
-returns c = subst (λ (r : Loaded). Within r (length (c .before .before .before .before .before .before .before .before .before .args .buffer .now))) (c .before .n .given .1) (c .before .before .before .before .before .load .ensures)
+returns c =
+    let at-load = c .before .before .before .before .before in
+    let start = at-load .before .before .before .before in
+    subst (λ (r : Loaded). Within r (length (start .args .buffer .now))) (c .before .n .given .1) (at-load .load .ensures)
 
 pub read-spec : {M : Type 1} → statement M
 read-spec =

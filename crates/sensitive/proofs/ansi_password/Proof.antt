@@ -57,59 +57,84 @@ module _ (s : List ℕ) where
   refused : {at : ℕ} {ps : List ℕ} → Passed s at ps → ((qs : List ℕ) → (within 1 15 (length (ps ++ qs)) && narrow (ps ++ qs)) ≡ false) → ansi s ≡ none
   refused {ps = ps} w f = passed-all s w bad (λ qs e. good (ps ++ qs) e ∙ left _ _ (f qs))
 
-  finished : (ps : List ℕ) → length ps ≤ 15 → narrow ps ≡ true → points s ≡ some ps → record { bytes = ps ++ replicate (16 - length ps) 0; len = length ps } ≡ ansiOf (ansi s)
+  finished : (ps : List ℕ) → length ps ≤ 15 → narrow ps ≡ true → points s ≡ some ps → record {
+    bytes = ps ++ replicate
+        (16 - length ps) 0;
+    len = length ps;
+  } ≡ ansiOf (ansi s)
   finished [] h e f = sym (ap ansiOf (good [] f ∙ left _ _ refl))
   finished (p ∷ ps) h e f = sym (ap ansiOf (good (p ∷ ps) f ∙ taken _ _ (rw (within-yes 1 15 (suc (length ps)) (omega arith) h) e)))
 
 passed : (c : tie.After-known-told Inv-loop μ-loop)
-    → Passed (c .before .before .before .before .before .before .args .text .now) (c .before .point .given .0 .1 .0) (c .before .before .before .before .loop .inv .0 ++ (c .before .point .given .0 .0 ∷ []))
-passed c = passed-more _ (c .before .before .before .before .loop .inv .1) (c .before .before .before .char-at .ensures) _ _ (c .before .point .given .1)
+    → Passed (c .before .before .before .before .before .before .args .text .now) (c .before .point .given .0 .1 .0)
+    (c .before .before .before .before .loop .inv .0 ++ (c .before .point .given .0 .0 ∷ []))
+passed c =
+    let at-char-at = c .before .before .before in
+    let at-loop = at-char-at .before in
+    passed-more _ (at-loop .loop .inv .1) (at-char-at .char-at .ensures) _ _ (c .before .point .given .1)
 
 loop-holds : tie.Need-loop-holds Inv-loop μ-loop
 loop-holds c = ([], passed-none _, refl, omega arith, refl, refl)
 
 returns : tie.Need-returns Inv-loop μ-loop
 returns c =
-    let i = c .before .before .before .before .before .before .loop .inv in
-    let p = c .before .before .before .point .given .0 .0 in
+    let at-known-told = c .before .before in
+    let at-point = at-known-told .before in
+    let at-loop = at-point .before .before .before in
+    let i = at-loop .loop .inv in
+    let p = at-point .point .given .0 .0 in
     c .no-password .ensures
-    ∙ ap ansiOf (sym (refused _ (passed (c .before .before)) (λ qs. rw (wide (i .0) qs p (c .before .if1 .taken), and-false))))
+    ∙ ap ansiOf (sym (refused _ (passed at-known-told) (λ qs. rw (wide (i .0) qs p (c .before .if1 .taken), and-false))))
 
 returns-2 : tie.Need-returns-2 Inv-loop μ-loop
 returns-2 c =
-    let i = c .before .before .before .before .before .before .before .loop .inv in
-    let p = c .before .before .before .before .point .given .0 .0 in
+    let at-known-told = c .before .before .before in
+    let at-point = at-known-told .before in
+    let at-loop = at-point .before .before .before in
+    let i = at-loop .loop .inv in
+    let p = at-point .point .given .0 .0 in
     c .no-password2 .ensures
-    ∙ ap ansiOf (sym (refused _ (passed (c .before .before .before)) (λ qs. rw (within-high 1 15 (length (i .0 ++ (p ∷ []) ++ qs)) (rw (length-append, length-append) (omega arith))))))
+    ∙ ap ansiOf (sym (refused _ (passed at-known-told) (λ qs. rw (within-high 1 15 (length (i .0 ++ (p ∷ []) ++ qs)) (rw (length-append, length-append) (omega arith))))))
 
 loop-less : tie.Need-loop-less Inv-loop μ-loop
 loop-less c =
-    let w = passed (c .before .before) in
-    let m = passed-on _ (c .before .before .before .before .before .before .loop .inv .1) (c .before .before .before .before .before .char-at .ensures) _ _ (c .before .before .before .point .given .1) in
+    let at-known-told = c .before .before in
+    let at-point = at-known-told .before in
+    let at-char-at = at-point .before .before in
+    let at-loop = at-char-at .before in
+    let w = passed at-known-told in
+    let m = passed-on _ (at-loop .loop .inv .1) (at-char-at .char-at .ensures) _ _ (at-point .point .given .1) in
     omega arith
 
 loop-again : tie.Need-loop-again Inv-loop μ-loop
 loop-again c =
-    let i = c .before .before .before .before .before .before .loop .inv in
-    let p = c .before .before .before .point .given .0 .0 in
+    let at-known-told = c .before .before in
+    let at-point = at-known-told .before in
+    let at-loop = at-point .before .before .before in
+    let i = at-loop .loop .inv in
+    let p = at-point .point .given .0 .0 in
     let l = i .2 in (
       _,
-      passed (c .before .before),
+      passed at-known-told,
       rw length-append (omega arith),
       omega arith,
       narrow-more (i .0) p (i .4) (c .before .if1 .left),
-      rw (i .5) (stored (i .0) (c .before .before .before .before .before .before .loop .len) p l (c .if2 .left)),
+      rw (i .5) (stored (i .0) (at-loop .loop .len) p l (c .if2 .left)),
     )
 
 returns-3 : tie.Need-returns-3 Inv-loop μ-loop
 returns-3 c =
-    c .no-password3 .ensures ∙ ap ansiOf (sym (bad _ (passed-bad _ (c .before .before .before .before .loop .inv .1) (c .before .before .before .char-at .ensures) (c .before .enum-told .given .1))))
+    let at-char-at = c .before .before .before in
+    let at-loop = at-char-at .before in
+    c .no-password3 .ensures ∙ ap ansiOf (sym (bad _ (passed-bad _ (at-loop .loop .inv .1) (at-char-at .char-at .ensures) (c .before .enum-told .given .1))))
 
 returns-4 : tie.Need-returns-4 Inv-loop μ-loop
 returns-4 c =
-    let i = c .before .before .before .loop .inv in
+    let at-char-at = c .before .before in
+    let at-loop = at-char-at .before in
+    let i = at-loop .loop .inv in
     let l = i .2 in
-    rw (i .5, i .2) (finished _ (i .0) (omega arith) (i .4) (passed-end _ (i .1) (c .before .before .char-at .ensures) (c .enum-told2 .given .1)))
+    rw (i .5, i .2) (finished _ (i .0) (omega arith) (i .4) (passed-end _ (i .1) (at-char-at .char-at .ensures) (c .enum-told2 .given .1)))
 
 pub ansi-password-spec : {M : Type 1} → statement M
 ansi-password-spec =

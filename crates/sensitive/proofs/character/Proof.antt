@@ -22,17 +22,23 @@ returns : tie.Need-returns
 returns c = sym (rule-1 _ _ _ _ _ (sym (c .before .within .ensures) ∙ c .if1 .taken))
 
 returns-2 : tie.Need-returns-2
-returns-2 c = rw (c .point2 .ensures) (sym (rule-2 _ _ _ _ _ (not-one (c .before .before .before)) (sym (c .before .before .two .ensures) ∙ c .before .if2 .taken)))
+returns-2 c =
+    let at-two = c .before .before in
+    let at-else1 = at-two .before in
+    rw (c .point2 .ensures) (sym (rule-2 _ _ _ _ _ (not-one at-else1) (sym (at-two .two .ensures) ∙ c .before .if2 .taken)))
 
 returns-3 : tie.Need-returns-3
 returns-3 c =
-    let d = c .before .before .before in
-    rw (c .point3 .ensures) (sym (rule-3 _ _ _ _ _ (not-one (d .before .before)) (not-two d) (sym (c .before .before .three .ensures) ∙ c .before .if3 .taken)))
+    let at-three = c .before .before in
+    let d = at-three .before in
+    rw (c .point3 .ensures) (sym (rule-3 _ _ _ _ _ (not-one (d .before .before)) (not-two d) (sym (at-three .three .ensures) ∙ c .before .if3 .taken)))
 
 returns-4 : tie.Need-returns-4
 returns-4 c =
-    let d = c .before .before .before in
-    rw (c .point4 .ensures) (sym (rule-4 _ _ _ _ _ (not-one (d .before .before .before .before)) (not-two (d .before .before)) (not-three d) (sym (c .before .before .four .ensures) ∙ c .before .if4 .taken)))
+    let at-four = c .before .before in
+    let d = at-four .before in
+    rw (c .point4 .ensures) (sym (rule-4 _ _ _ _ _ (not-one (d .before .before .before .before)) (not-two (d .before .before)) (not-three d)
+    (sym (at-four .four .ensures) ∙ c .before .if4 .taken)))
 
 returns-5 : tie.Need-returns-5
 returns-5 c =

@@ -32,15 +32,18 @@ slice-write-out c = rw (long (c .before)) (omega arith)
 
 loop-again : tie.Need-loop-again Inv-loop μ-loop
 loop-again c =
+    let start = c .before .before .before in
     let i = c .before .loop .inv in
-    let a = c .before .before .before .args in
+    let a = start .args in
     (omega arith, i .1, i .2, i .3, rw (i .4, add-one) (paste-suc (a .out .now) (a .at) (a .units .bytes) (c .before .loop .k) 0 (omega arith) (omega arith)))
 
 same-length : tie.Need-same-length Inv-loop μ-loop
 same-length c = long (c .before)
 
 returns : tie.Need-returns Inv-loop μ-loop
-returns c = let q : c .before .loop .k ≡ c .before .before .before .args .units .len = omega arith in rw q at (c .before .loop .inv .4)
+returns c =
+    let start = c .before .before .before in
+    let q : c .before .loop .k ≡ start .args .units .len = omega arith in rw q at (c .before .loop .inv .4)
 
 pub put-spec : {M : Type 1} → statement M
 put-spec =

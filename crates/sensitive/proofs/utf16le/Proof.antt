@@ -11,8 +11,11 @@ returns c = rw (c .before .lower .ensures, c .upper .ensures) (sym (units-1 _ (c
 
 returns-2 : tie.Need-returns-2
 returns-2 c =
-    rw (c .before .before .before .lower2 .ensures, c .before .before .upper2 .ensures, c .before .lower3 .ensures, c .upper3 .ensures)
-    (sym (units-2 _ (c .before .before .before .before .if1 .left)))
+    let at-upper2 = c .before .before in
+    let at-lower2 = at-upper2 .before in
+    let at-if1 = at-lower2 .before in
+    rw (at-lower2 .lower2 .ensures, at-upper2 .upper2 .ensures, c .before .lower3 .ensures, c .upper3 .ensures)
+    (sym (units-2 _ (at-if1 .if1 .left)))
 
 pub utf16le-spec : {M : Type 1} → statement M
 utf16le-spec =

@@ -26,29 +26,41 @@ loop-holds c = ([], passed-none _, refl)
 
 loop-again : tie.Need-loop-again Inv-loop μ-loop
 loop-again c =
-    let i = c .before .before .before .before .before .before .loop .inv in
-    (_, passed-more _ (i .1) (c .before .before .before .before .before .char-at .ensures) _ _ (c .before .before .before .point .given .1), count-more (i .0) (i .2) (spells _ _ (c .before .utf16le .ensures)))
+    let at-point = c .before .before .before in
+    let at-char-at = at-point .before .before in
+    let at-loop = at-char-at .before in
+    let i = at-loop .loop .inv in
+    (_, passed-more _ (i .1) (at-char-at .char-at .ensures) _ _ (at-point .point .given .1), count-more (i .0) (i .2) (spells _ _ (c .before .utf16le .ensures)))
 
 add-len : tie.Need-add-len Inv-loop μ-loop
 add-len c =
+    let start = c .before .before .before .before .before .before .before .before in
     let a = loop-again c in
     let w = a .1 in
     let n = a .2 in
-    omega (arith, c .before .before .before .before .before .before .before .before .good)
+    omega (arith, start .good)
 
 loop-less : tie.Need-loop-less Inv-loop μ-loop
 loop-less c =
+    let at-point = c .before .before .before in
+    let at-char-at = at-point .before .before in
+    let at-loop = at-char-at .before in
     let w = loop-again c .1 in
-    let m = passed-on _ (c .before .before .before .before .before .before .loop .inv .1) (c .before .before .before .before .before .char-at .ensures) _ _ (c .before .before .before .point .given .1) in
+    let m = passed-on _ (at-loop .loop .inv .1) (at-char-at .char-at .ensures) _ _ (at-point .point .given .1) in
     omega arith
 
 returns : tie.Need-returns Inv-loop μ-loop
-returns c = rw (passed-bad _ (c .before .before .before .loop .inv .1) (c .before .before .char-at .ensures) (c .enum-told .given .1))
+returns c =
+    let at-char-at = c .before .before in
+    let at-loop = at-char-at .before in
+    rw (passed-bad _ (at-loop .loop .inv .1) (at-char-at .char-at .ensures) (c .enum-told .given .1))
 
 returns-2 : tie.Need-returns-2 Inv-loop μ-loop
 returns-2 c =
-    let i = c .before .before .before .loop .inv in
-    rw (passed-end _ (i .1) (c .before .before .char-at .ensures) (c .enum-told2 .given .1)) (ap Bytes (i .2))
+    let at-char-at = c .before .before in
+    let at-loop = at-char-at .before in
+    let i = at-loop .loop .inv in
+    rw (passed-end _ (i .1) (at-char-at .char-at .ensures) (c .enum-told2 .given .1)) (ap Bytes (i .2))
 
 pub utf16le-len-spec : {M : Type 1} → statement M
 utf16le-len-spec =

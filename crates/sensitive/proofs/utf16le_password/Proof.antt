@@ -42,30 +42,45 @@ sized (some bs) n e = (bs, refl, all-bytes (length bs) n e)
 
 returns : tie.Need-returns
 returns c =
-    let a = c .before .before .before .before .before .before .before .args in
-    let b = sized (encoded (a .text .now)) _ (sym (c .before .before .before .before .utf16le-len .ensures) ∙ c .before .before .n .given .1) in
+    let at-n = c .before .before in
+    let at-utf16le-len = at-n .before .before in
+    let start = at-utf16le-len .before .before .before in
+    let a = start .args in
+    let b = sized (encoded (a .text .now)) _ (sym (at-utf16le-len .utf16le-len .ensures) ∙ at-n .n .given .1) in
     rw (← (b .2), short (encoded (a .text .now)) (a .out .now) (b .0) (b .1) (rw (b .2) (c .if1 .taken))) (refl, refl)
 
 fits : (c : tie.After-put-text-arg) → c .before .before .before .n .given .0 .0 ≡ length (take (c .before .before .before .n .given .0 .0) (c .before .before .before .before .before .before .before .before .args .out .now))
-fits c = sym (length-take-le (c .before .before .before .n .given .0 .0) (c .before .before .before .before .before .before .before .before .args .out .now) (c .before .if1 .left))
+fits c =
+    let at-n = c .before .before .before in
+    let start = at-n .before .before .before .before .before in
+    sym (length-take-le (at-n .n .given .0 .0) (start .args .out .now) (c .before .if1 .left))
 
 slice-aggregate-put-text : tie.Need-slice-aggregate-put-text
 slice-aggregate-put-text c = fits c
 
 put-text-requires : tie.Need-put-text-requires
-put-text-requires c κs = rw (← fits c) (sym (c .before .before .before .before .before .utf16le-len .ensures) ∙ c .before .before .before .n .given .1)
+put-text-requires c κs =
+    let at-n = c .before .before .before in
+    let at-utf16le-len = at-n .before .before in
+    rw (← fits c) (sym (at-utf16le-len .utf16le-len .ensures) ∙ at-n .n .given .1)
 
 returns-2 : tie.Need-returns-2
 returns-2 c =
-    let a = c .before .before .before .before .before .args in
-    rw (bad (encoded (a .text .now)) (a .out .now) (sym (c .before .before .utf16le-len .ensures) ∙ c .enum-told .given .1)) (refl, refl)
+    let at-utf16le-len = c .before .before in
+    let start = at-utf16le-len .before .before .before in
+    let a = start .args in
+    rw (bad (encoded (a .text .now)) (a .out .now) (sym (at-utf16le-len .utf16le-len .ensures) ∙ c .enum-told .given .1)) (refl, refl)
 
 returns-3 : tie.Need-returns-3
 returns-3 c =
-    let a = c .before .before .before .before .before .before .before .before .before .before .before .args in
-    let bs = c .before .before .put-text .last .1 .0 in
-    let l = fits (c .before .before .before) ∙ sym (c .before .before .put-text .kept .1 .0) in
-    rw (l, whole (encoded (a .text .now)) (a .out .now) bs (c .before .before .put-text .ensures) (rw (← l) (c .before .before .before .before .if1 .left))) (refl, refl)
+    let at-put-text = c .before .before in
+    let at-put-text-arg = at-put-text .before in
+    let at-if1 = at-put-text-arg .before in
+    let start = at-if1 .before .before .before .before .before .before .before in
+    let a = start .args in
+    let bs = at-put-text .put-text .last .1 .0 in
+    let l = fits at-put-text-arg ∙ sym (at-put-text .put-text .kept .1 .0) in
+    rw (l, whole (encoded (a .text .now)) (a .out .now) bs (at-put-text .put-text .ensures) (rw (← l) (at-if1 .if1 .left))) (refl, refl)
 
 pub utf16le-password-spec : {M : Type 1} → statement M
 utf16le-password-spec =

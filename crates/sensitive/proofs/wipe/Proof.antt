@@ -37,19 +37,26 @@ loop-holds : tie.Need-loop-holds Inv-loop μ-loop
 loop-holds c = (omega arith, omega arith, refl)
 
 slice-write-buf : tie.Need-slice-write-buf Inv-loop μ-loop
-slice-write-buf c = let i = c .before .loop .inv in rw (i .2, long (c .before .before .before .args .buf .now) (c .before .loop .i) (omega arith)) (omega arith)
+slice-write-buf c =
+    let start = c .before .before .before in
+    let i = c .before .loop .inv in rw (i .2, long (start .args .buf .now) (c .before .loop .i) (omega arith)) (omega arith)
 
 loop-again : tie.Need-loop-again Inv-loop μ-loop
-loop-again c = let i = c .before .loop .inv in (omega arith, i .1, rw (i .2) (wiped (c .before .before .before .args .buf .now) (c .before .loop .i) (omega arith)))
+loop-again c =
+    let start = c .before .before .before in
+    let i = c .before .loop .inv in (omega arith, i .1, rw (i .2) (wiped (start .args .buf .now) (c .before .loop .i) (omega arith)))
 
 same-length : tie.Need-same-length Inv-loop μ-loop
-same-length c = let i = c .before .loop .inv in rw (i .2) (long (c .before .before .before .args .buf .now) (c .before .loop .i) (omega arith))
+same-length c =
+    let start = c .before .before .before in
+    let i = c .before .loop .inv in rw (i .2) (long (start .args .buf .now) (c .before .loop .i) (omega arith))
 
 returns-2 : tie.Need-returns-2 Inv-loop μ-loop
 returns-2 c =
+    let start = c .before .before .before in
     let i = c .before .loop .inv in
     let e = le-leb _ _ (i .1) in
-    let q : c .before .loop .i ≡ c .before .before .before .args .n = omega arith in
+    let q : c .before .loop .i ≡ start .args .n = omega arith in
     (sym e, i .2 ∙ rw q (sym (taken _ _ e)))
 
 pub wipe-spec : {M : Type 1} → statement M

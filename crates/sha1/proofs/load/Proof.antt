@@ -21,9 +21,15 @@ loop-holds c = (search needs, search needs, none-yet _)
 
 loop-again : tie.Need-loop-again Inv-loop μ-loop
 loop-again c =
-    let l = c .before .before .before .before .before .before .loop in
-    let a = c .before .before .before .before .before .before .before .before .args in
-    (search needs, search needs, load-more (a .m .now) (l .w) (a .at) (l .t) (c .from-be-bytes .result) (search needs) (l .inv .1) (l .inv .2) (c .from-be-bytes .ensures))
+    let at-loop = c .before .before .before .before .before .before in
+    let start = at-loop .before .before in
+    let l = at-loop .loop in
+    let a = start .args in (
+      search needs,
+      search needs,
+      load-more (a .m .now) (l .w) (a .at) (l .t) (c .from-be-bytes .result) (search needs) (l .inv .1) (l .inv .2)
+          (c .from-be-bytes .ensures),
+    )
 
 returns : tie.Need-returns Inv-loop μ-loop
 returns c =

@@ -20,19 +20,23 @@ loop-holds c = (search needs, none-yet _ _)
 
 loop-again : tie.Need-loop-again Inv-loop μ-loop
 loop-again c =
-    let w = c .before .before .before .before .before .args .w .now in
-    let l = c .before .before .before .before .loop in
+    let at-ch = c .before .before in
+    let at-loop = at-ch .before .before in
+    let start = at-loop .before in
+    let w = start .args .w .now in
+    let l = at-loop .loop in
     let v = l .v in
     let t = l .t in (
       search needs,
-      one-more w (c .before .before .before .before .before .args .v) v (c .turn .result) t (c .before .before .ch .result) 0x5a827999 (l .inv .1)
-          (c .before .before .ch .ensures ∙ sym (f-ch t (v .h1) (v .h2) (v .h3) (omega arith))) (sym (k-ch t (omega arith))) (c .turn .ensures),
+      one-more w (start .args .v) v (c .turn .result) t (at-ch .ch .result) 0x5a827999 (l .inv .1)
+          (at-ch .ch .ensures ∙ sym (f-ch t (v .h1) (v .h2) (v .h3) (omega arith))) (sym (k-ch t (omega arith))) (c .turn .ensures),
     )
 
 returns : tie.Need-returns Inv-loop μ-loop
 returns c =
+    let start = c .before .before in
     let e : c .before .loop .t ≡ 20 = omega arith in
-    c .before .loop .inv .1 ∙ ap (λ (t : ℕ). rounds (c .before .before .args .w .now) (c .before .before .args .v) t) e
+    c .before .loop .inv .1 ∙ ap (λ (t : ℕ). rounds (start .args .w .now) (start .args .v) t) e
 
 pub rounds-ch-spec : {M : Type 1} → statement M
 rounds-ch-spec =

@@ -21,15 +21,18 @@ loop-holds c = (search needs, search needs, λ u h. h)
 
 loop-again : tie.Need-loop-again Inv-loop μ-loop
 loop-again c =
-    let w = c .before .before .before .before .before .args .w .now in
-    let l = c .before .before .before .before .loop in
+    let at-maj = c .before .before in
+    let at-loop = at-maj .before .before in
+    let start = at-loop .before in
+    let w = start .args .w .now in
+    let l = at-loop .loop in
     let v = l .v in
     let t = l .t in (
       search needs,
       search needs,
       λ u h.
-          one-more w u v (c .turn .result) t (c .before .before .maj .result) 0x8f1bbcdc (l .inv .2 u h)
-          (c .before .before .maj .ensures ∙ sym (f-maj t (v .h1) (v .h2) (v .h3) (omega arith) (omega arith))) (sym (k-maj t (omega arith) (omega arith))) (c .turn .ensures),
+          one-more w u v (c .turn .result) t (at-maj .maj .result) 0x8f1bbcdc (l .inv .2 u h)
+          (at-maj .maj .ensures ∙ sym (f-maj t (v .h1) (v .h2) (v .h3) (omega arith) (omega arith))) (sym (k-maj t (omega arith) (omega arith))) (c .turn .ensures),
     )
 
 returns : tie.Need-returns Inv-loop μ-loop

@@ -8,9 +8,12 @@ use Rattle.sha1.proofs.to_bytes.Tie as tie
 returns : tie.Need-returns
 unfolding output
 returns c =
-    let a = c .before .before .before .before .to-be-bytes .ensures in
-    let b = c .before .before .before .to-be-bytes2 .ensures in
-    let d = c .before .before .to-be-bytes3 .ensures in
+    let at-to-be-bytes3 = c .before .before in
+    let at-to-be-bytes2 = at-to-be-bytes3 .before in
+    let at-to-be-bytes = at-to-be-bytes2 .before in
+    let a = at-to-be-bytes .to-be-bytes .ensures in
+    let b = at-to-be-bytes2 .to-be-bytes2 .ensures in
+    let d = at-to-be-bytes3 .to-be-bytes3 .ensures in
     let e = c .before .to-be-bytes4 .ensures in
     let f = c .to-be-bytes5 .ensures in
     rw (a, b, d, e, f)

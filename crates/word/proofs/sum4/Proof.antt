@@ -8,8 +8,10 @@ use Rattle.word.proofs.sum4.Tie as tie
 
 returns : tie.Need-returns
 returns c =
-    let a = c .before .before .before .args in
-    one-more (a .a + a .b + a .c) (a .d) (one-more (a .a + a .b) (a .c) (c .before .before .add .ensures) (c .before .add2 .ensures)) (c .add3 .ensures)
+    let at-add = c .before .before in
+    let start = at-add .before in
+    let a = start .args in
+    one-more (a .a + a .b + a .c) (a .d) (one-more (a .a + a .b) (a .c) (at-add .add .ensures) (c .before .add2 .ensures)) (c .add3 .ensures)
 
 pub sum4-spec : {M : Type 1} → statement M
 sum4-spec = tie.close (tie.spec (λ c κs. search needs) (λ c κs. search needs) (λ c κs. search needs) returns)

@@ -23,10 +23,15 @@ loop-holds c = (search needs, bits-none _ _ _)
 
 loop-again : tie.Need-loop-again Inv-loop μ-loop
 loop-again c =
-    let l = c .before .before .before .loop in
-    let a = c .before .before .before .before .args in
-    let b = a .c / 2 ^ (6 - l .n) % 2 in
-    (search needs, bits-more (a .c) (a .element) (a .key) (l .key) (c .toggled .result) (l .n) b (l .inv .1) refl (c .toggled .ensures ∙ ap (λ (m : ℕ). pick (eqb b 1) (bitXor (l .key) m) (l .key)) (c .before .matrix .ensures)))
+    let at-loop = c .before .before .before in
+    let start = at-loop .before in
+    let l = at-loop .loop in
+    let a = start .args in
+    let b = a .c / 2 ^ (6 - l .n) % 2 in (
+      search needs,
+      bits-more (a .c) (a .element) (a .key) (l .key) (c .toggled .result) (l .n) b (l .inv .1) refl
+          (c .toggled .ensures ∙ ap (λ (m : ℕ). pick (eqb b 1) (bitXor (l .key) m) (l .key)) (c .before .matrix .ensures)),
+    )
 
 returns : tie.Need-returns Inv-loop μ-loop
 returns c =

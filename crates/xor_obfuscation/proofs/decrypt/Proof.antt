@@ -7,15 +7,21 @@ use Rattle.xor_obfuscation.proofs.decrypt.Tie as tie
 
 returns : tie.Need-returns
 returns c =
-    let n = c .before .before .before .before .before .least in
-    let a = c .before .before .before .before .before .before .before .before .args in
-    deciphers (a .array .now) (a .index) (a .src .now) (a .dst .now) _ (n .result) (n .ensures) (c .before .before .decrypt-short .ensures)
+    let at-decrypt-short = c .before .before in
+    let at-least = at-decrypt-short .before .before .before in
+    let start = at-least .before .before .before in
+    let n = at-least .least in
+    let a = start .args in
+    deciphers (a .array .now) (a .index) (a .src .now) (a .dst .now) _ (n .result) (n .ensures) (at-decrypt-short .decrypt-short .ensures)
 
 returns-2 : tie.Need-returns-2
 returns-2 c =
-    let n = c .before .before .before .before .before .least in
-    let a = c .before .before .before .before .before .before .before .before .args in
-    deciphers (a .array .now) (a .index) (a .src .now) (a .dst .now) _ (n .result) (n .ensures) (c .before .before .decrypt-long .ensures)
+    let at-decrypt-long = c .before .before in
+    let at-least = at-decrypt-long .before .before .before in
+    let start = at-least .before .before .before in
+    let n = at-least .least in
+    let a = start .args in
+    deciphers (a .array .now) (a .index) (a .src .now) (a .dst .now) _ (n .result) (n .ensures) (at-decrypt-long .decrypt-long .ensures)
 
 pub decrypt-spec : {M : Type 1} → statement M
 decrypt-spec =

@@ -21,22 +21,33 @@ loop-holds c = (search needs, search needs, written-none _ 0 _)
 
 loop-again : tie.Need-loop-again Inv-loop μ-loop
 loop-again c =
-    let q = c .before .before .before .before .before .before .before in
+    let at-put = c .before .before in
+    let at-piece = at-put .before .before in
+    let q = at-piece .before .before .before in
     let l = q .loop in
     let a = q .before .before .before .before .args in
     let e : a .index % 16 ≡ (a .index + l .at) % 16 = omega arith in
-    let w = piece-written (a .array .now) (a .index) (a .src .now) (a .index % 16) (l .at) (q .before .doubled .result) (c .before .before .before .before .piece .result) (l .dst) _ e (q .before .doubled .ensures) (c .before .before .before .before .piece .ensures) (c .before .before .put .ensures) in
-    (search needs, search needs, written-join (decipheredAt (a .array .now) (a .index) (a .src .now)) 0 (l .at) (l .at + 16) (a .dst .now) (l .dst) _ (omega arith) (omega arith) (l .inv .2) w)
+    let w = piece-written (a .array .now) (a .index) (a .src .now) (a .index % 16) (l .at) (q .before .doubled .result) (at-piece .piece .result) (l .dst) _ e
+    (q .before .doubled .ensures) (at-piece .piece .ensures) (at-put .put .ensures) in (
+      search needs,
+      search needs,
+      written-join (decipheredAt (a .array .now) (a .index) (a .src .now)) 0 (l .at) (l .at + 16) (a .dst .now) (l .dst) _
+          (omega arith) (omega arith) (l .inv .2) w,
+    )
 
 returns : tie.Need-returns Inv-loop μ-loop
 returns c =
-    let q = c .before .before .before .before .before .before .before in
+    let at-put2 = c .before .before in
+    let at-piece2 = at-put2 .before .before in
+    let q = at-piece2 .before .before .before in
     let l = q .loop in
     let a = q .before .before .before .before .args in
     let e : (a .index % 16 + a .n) % 16 ≡ (a .index + (a .n - 16)) % 16 = omega arith in
-    let w = piece-written (a .array .now) (a .index) (a .src .now) ((a .index % 16 + a .n) % 16) (a .n - 16) (q .before .doubled .result) (c .before .before .before .before .piece2 .result) (l .dst) _ e (q .before .doubled .ensures) (c .before .before .before .before .piece2 .ensures) (c .before .before .put2 .ensures) in
+    let w = piece-written (a .array .now) (a .index) (a .src .now) ((a .index % 16 + a .n) % 16) (a .n - 16) (q .before .doubled .result)
+    (at-piece2 .piece2 .result) (l .dst) _ e (q .before .doubled .ensures) (at-piece2 .piece2 .ensures) (at-put2 .put2 .ensures) in
     let s : a .n - 16 + 16 ≡ a .n = omega arith in
-    written-over (decipheredAt (a .array .now) (a .index) (a .src .now)) (a .n - 16) (l .at) (a .n) (a .dst .now) (l .dst) _ (omega arith) (omega arith) (l .inv .2) (rw s at w)
+    written-over (decipheredAt (a .array .now) (a .index) (a .src .now)) (a .n - 16) (l .at) (a .n) (a .dst .now) (l .dst) _ (omega arith) (omega arith)
+    (l .inv .2) (rw s at w)
 
 pub decrypt-long-spec : {M : Type 1} → statement M
 decrypt-long-spec =

@@ -24,8 +24,10 @@ loop-holds c = (search needs, search needs, refl)
 
 loop-again : tie.Need-loop-again Inv-loop μ-loop
 loop-again c =
-    let l = c .before .before .loop in
-    let a = c .before .before .before .args .array .now in
+    let at-loop = c .before .before in
+    let start = at-loop .before in
+    let l = at-loop .loop in
+    let a = start .args .array .now in
     (search needs, search needs, tabulate-store (λ (n : ℕ). getD a (n % 16) 0) (l .twice) (l .i) (getD a (l .i % 16) 0) (omega arith) (l .inv .2) refl)
 
 returns : tie.Need-returns Inv-loop μ-loop

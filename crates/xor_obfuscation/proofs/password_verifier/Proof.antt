@@ -21,15 +21,19 @@ loop-holds c = (search needs, walked-none (c .before .args .password .now))
 
 loop-again : tie.Need-loop-again Inv-loop μ-loop
 loop-again c =
-    let l = c .before .before .before .loop in
-    let p = c .before .before .before .before .before .args .password .now in
+    let at-loop = c .before .before .before in
+    let start = at-loop .before .before in
+    let l = at-loop .loop in
+    let p = start .args .password .now in
     let e : l .n - 1 + 1 ≡ l .n = omega arith in
     (search needs, walked-more p (l .n - 1) (l .n) (l .v) (c .verifier-step .result) e (l .inv .0) (l .inv .1) (c .verifier-step .ensures))
 
 returns : tie.Need-returns Inv-loop μ-loop
 returns c =
-    let l = c .before .before .before .loop in
-    let p = c .before .before .before .before .before .args .password .now in
+    let at-loop = c .before .before .before in
+    let start = at-loop .before .before in
+    let l = at-loop .loop in
+    let p = start .args .password .now in
     let e : l .n ≡ 0 = omega arith in
     verifier-whole p (l .v) (c .before .least .result) (c .verifier-step2 .result) (rw e at (l .inv .1)) (c .before .least .ensures) (c .verifier-step2 .ensures)
 

@@ -26,8 +26,12 @@ loop-again c =
     let l = c .before .loop in
     let a = c .before .before .args in
     let f : ℕ → ℕ = λ (o : ℕ). getD (a .t1) (o - a .at) 0 in
-    let q : l .i ≡ a .at + l .i - a .at = omega arith in
-    (search needs, rw (← add-assoc (a .at) (l .i) 1) (written-more f (a .at) (a .at + l .i) (a .dst .now) (l .dst) (getD (a .t1) (l .i) 0) (omega arith) (omega arith) (ap (λ (n : ℕ). getD (a .t1) n 0) q) (l .inv .1)))
+    let q : l .i ≡ a .at + l .i - a .at = omega arith in (
+      search needs,
+      rw (← add-assoc (a .at) (l .i) 1)
+          (written-more f (a .at) (a .at + l .i) (a .dst .now) (l .dst) (getD (a .t1) (l .i) 0) (omega arith) (omega arith) (ap (λ (n : ℕ). getD (a .t1) n 0) q)
+          (l .inv .1)),
+    )
 
 returns : tie.Need-returns Inv-loop μ-loop
 returns c =

@@ -25,9 +25,13 @@ loop-holds c = (search needs, search needs, refl)
 
 loop-again : tie.Need-loop-again Inv-loop μ-loop
 loop-again c =
-    let l = c .before .before .before .before .loop in
-    let a = c .before .before .before .before .before .before .args in
-    let x : c .rotate-right-u8 .result ≡ xorArrayAt (a .password .now) (a .key) (l .i) = c .rotate-right-u8 .ensures ∙ rw (c .before .before .source .ensures, c .before .half .ensures) refl in
+    let at-source = c .before .before in
+    let at-loop = at-source .before .before in
+    let start = at-loop .before .before in
+    let l = at-loop .loop in
+    let a = start .args in
+    let x : c .rotate-right-u8 .result ≡ xorArrayAt (a .password .now) (a .key) (l .i) = c .rotate-right-u8 .ensures ∙ rw
+    (at-source .source .ensures, c .before .half .ensures) refl in
     (search needs, search needs, tabulate-store (xorArrayAt (a .password .now) (a .key)) (l .array) (l .i) (c .rotate-right-u8 .result) (omega arith) (l .inv .2) x)
 
 returns : tie.Need-returns Inv-loop μ-loop

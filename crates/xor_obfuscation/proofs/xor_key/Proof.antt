@@ -27,17 +27,29 @@ loop-holds c = (search needs, search needs, search needs, search needs, key-none
 
 loop-again : tie.Need-loop-again Inv-loop μ-loop
 loop-again c =
-    let l = c .before .before .before .loop in
-    let p = c .before .before .before .before .before .before .before .before .args .password .now in
+    let at-loop = c .before .before .before in
+    let at-initial = at-loop .before in
+    let start = at-initial .before .before .before .before in
+    let l = at-loop .loop in
+    let p = start .args .password .now in
     let e : l .n - 1 + 1 ≡ l .n = omega arith in
-    let g : l .element ≡ 104 - (length p - l .n) * 7 = omega arith in
-    (search needs, search needs, search needs, omega arith, key-more (c .before .before .before .before .initial .result) p (l .n - 1) (l .n) (l .key) (c .char-key .result) (l .element) e (l .inv .1) (l .inv .4) g (c .char-key .ensures))
+    let g : l .element ≡ 104 - (length p - l .n) * 7 = omega arith in (
+      search needs,
+      search needs,
+      search needs,
+      omega arith,
+      key-more (at-initial .initial .result) p (l .n - 1) (l .n) (l .key) (c .char-key .result)
+          (l .element) e (l .inv .1) (l .inv .4) g (c .char-key .ensures),
+    )
 
 returns-3 : tie.Need-returns-3 Inv-loop μ-loop
 returns-3 c =
-    let l = c .before .before .before .loop in
-    let p = c .before .before .before .before .before .before .before .before .args .password .now in
-    let code = c .before .before .before .before .initial in
+    let at-loop = c .before .before .before in
+    let at-initial = at-loop .before in
+    let start = at-initial .before .before .before .before in
+    let l = at-loop .loop in
+    let p = start .args .password .now in
+    let code = at-initial .initial in
     let e : 0 + 1 ≡ l .n = omega arith in
     let g : l .element ≡ 104 - (length p - l .n) * 7 = omega arith in
     key-whole p (code .result) (c .char-key2 .result) (omega arith) (l .inv .2) (code .ensures)

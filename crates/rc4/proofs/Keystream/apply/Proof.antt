@@ -28,19 +28,27 @@ loop-holds c = (search needs, search needs, search needs, search needs, after-no
 
 loop-again : tie.Need-loop-again Inv-loop μ-loop
 loop-again c =
-    let l = c .before .before .before .before .before .loop in
-    let a = c .before .before .before .before .before .before .before .before .before .before .before .before .args in
-    let k₀ : Keystream = record { table = c .before .before .before .before .before .before .before .before .before .before .before .before .args .self .table; i = c .before .before .before .before .before .before .before .wide .result; j = c .before .before .before .before .before .before .wide2 .result } in
+    let at-wide4 = c .before .before in
+    let at-wide3 = at-wide4 .before in
+    let at-loop = at-wide3 .before .before in
+    let at-wide2 = at-loop .before in
+    let at-wide = at-wide2 .before in
+    let start = at-wide .before .before .before .before .before in
+    let l = at-loop .loop in
+    let a = start .args in
+    let k₀ : Keystream = record { table = start .args .self .table; i = at-wide .wide .result; j = at-wide2 .wide2 .result } in
     let t = l .t in
     let i = (l .i + 1) % 256 in
-    let j = (l .j + c .before .before .before .wide3 .result) % 256 in
-    let gj : j ≡ (l .j + getD t i 0) % 256 = ap (λ (n : ℕ). (l .j + n) % 256) (c .before .before .before .wide3 .ensures .0) in
+    let j = (l .j + at-wide3 .wide3 .result) % 256 in
+    let gj : j ≡ (l .j + getD t i 0) % 256 = ap (λ (n : ℕ). (l .j + n) % 256) (at-wide3 .wide3 .ensures .0) in
     let hi : i < length t = rw (l .inv .1) (mod-lt _ (lit< tt)) in
     let hj : j < length t = rw (l .inv .1) (mod-lt _ (lit< tt)) in
-    let at : (c .before .before .wide4 .result + c .before .wide5 .result) % 256 ≡ (getD t i 0 + getD t j 0) % 256 = rw (c .before .before .wide4 .ensures .0, c .before .wide5 .ensures .0) refl in
+    let at : (at-wide4 .wide4 .result + c .before .wide5 .result) % 256 ≡ (getD t i 0 + getD t j 0) % 256 = rw
+    (at-wide4 .wide4 .ensures .0, c .before .wide5 .ensures .0) refl in
     let t′ : List ℕ = set (set t i (getD t j 0)) j (getD t i 0) in
-    let x : bitXor (getD (a .src .now) (l .k) 0) (getD t′ ((c .before .before .wide4 .result + c .before .wide5 .result) % 256) 0) ≡ applied k₀ (a .src .now) (l .k) =
-    ap (λ (n : ℕ). bitXor (getD (a .src .now) (l .k) 0) (getD t′ n 0)) at ∙ ap (λ (b : ℕ). bitXor (getD (a .src .now) (l .k) 0) b) (byte-more k₀ t (l .i) (l .j) (l .k) i j (l .inv .4) refl gj hi hj) in (
+    let x : bitXor (getD (a .src .now) (l .k) 0) (getD t′ ((at-wide4 .wide4 .result + c .before .wide5 .result) % 256) 0) ≡ applied k₀ (a .src .now) (l .k) =
+    ap (λ (n : ℕ). bitXor (getD (a .src .now) (l .k) 0) (getD t′ n 0)) at ∙ ap (λ (b : ℕ). bitXor (getD (a .src .now) (l .k) 0) b)
+    (byte-more k₀ t (l .i) (l .j) (l .k) i j (l .inv .4) refl gj hi hj) in (
       search needs,
       simp length-set (l .inv .1),
       mod-lt _ (lit< tt),
@@ -51,13 +59,17 @@ loop-again c =
 
 returns : tie.Need-returns Inv-loop μ-loop
 returns c =
+    let at-wide2 = c .before .before in
+    let at-wide = at-wide2 .before in
+    let at-least = at-wide .before .before in
+    let start = at-least .before .before .before in
     let l = c .before .loop in
-    let a = c .before .before .before .before .before .before .before .before .args in
-    let k₀ : Keystream = record { table = c .before .before .before .before .before .before .before .before .args .self .table; i = c .before .before .before .wide .result; j = c .before .before .wide2 .result } in
-    let n = c .before .before .before .before .before .least .result in
+    let a = start .args in
+    let k₀ : Keystream = record { table = start .args .self .table; i = at-wide .wide .result; j = at-wide2 .wide2 .result } in
+    let n = at-least .least .result in
     let e : l .k ≡ n = omega arith in
-    let s : k₀ ≡ a .self = rw (c .before .before .before .wide .ensures .0, c .before .before .wide2 .ensures .0) refl in
-    applies (a .self) k₀ (a .src .now) (a .dst .now) (l .t) (l .dst) (l .i) (l .j) (l .k) n s (c .before .before .before .before .before .least .ensures) e (l .inv .2) (l .inv .3) (l .inv .4) (l .inv .5)
+    let s : k₀ ≡ a .self = rw (at-wide .wide .ensures .0, at-wide2 .wide2 .ensures .0) refl in
+    applies (a .self) k₀ (a .src .now) (a .dst .now) (l .t) (l .dst) (l .i) (l .j) (l .k) n s (at-least .least .ensures) e (l .inv .2) (l .inv .3) (l .inv .4) (l .inv .5)
 
 pub apply-spec : {M : Type 1} → statement M
 apply-spec =
