@@ -3,7 +3,7 @@
 -- Assumes nothing.
 use mathlib.Core.Path.{_≡_, refl, sym, ap, _∙_}
 use mathlib.Core.List.{List, []}
-use Prim.Native.Nat.{ℕ, zero, suc, _+_, _*_, _≤_, _<_}
+use Prim.Native.Nat.{ℕ, zero, suc, _+_, _*_, _^_, _≤_, _<_}
 use native.Mathlib.Nat.{zero-add, add-zero}
 use native.Mathlib.Omega.{arith}
 use lib.ListN.{length}
@@ -14,7 +14,7 @@ use Rattle.binary_office.specs.declared.Step.{Step}
 use Rattle.binary_office.specs.declared.Step.the-variants as step
 use Rattle.binary_office.specs.declared.WalkEnd.the-variants as end
 use Rattle.binary_office.specs.Fields.{le16At}
-use Rattle.binary_office.specs.Walk.{stepAt, Walk, behind, walkFrom, walkAt, walk, walkedOf}
+use Rattle.binary_office.specs.Walk.{stepAt, nextOf, Walk, behind, walkFrom, walkAt, walk, walkedOf}
 use Rattle.binary_office.proofs.Headers.{step-end, step-no-id, step-no-len, step-record, step-past}
 
 module _ (s : List ℕ) where
@@ -39,6 +39,12 @@ module _ (s : List ℕ) where
 
     pub record-within : at + 4 + len ≤ length s
     record-within = either (length s) at (λ h. never step.End (step-end s at h) (λ q. cc)) (λ h. by-id h (le16At s at) refl)
+
+  -- where the next header stands fits a number of the machine, as the offset and the stream's length do
+  pub next-fits : (at : ℕ) → at < 2 ^ 64 → length s < 2 ^ 64 → (r : Step) → r ≡ stepAt s at → nextOf at r < 2 ^ 64
+  next-fits at h k step.End e = h
+  next-fits at h k (step.Fault p) e = h
+  next-fits at h k (step.Record id len) e = let m = record-within at id len (sym e) in omega arith
 
   -- a fault's place is the header's offset
   module _ (at p : ℕ) (e : stepAt s at ≡ step.Fault p) where

@@ -2,10 +2,10 @@
 // `BiffRecords` is its iterator: a struct that holds the stream and the position, over a core on plain
 // slices.
 ghost use mathlib.Core.Path.{_≡_};
-ghost use Prim.Native.Nat.{_+_, _*_, _^_, _≤_, min};
+ghost use Prim.Native.Nat.{_+_, _*_, _^_, _≤_, _<_, min};
 ghost use lib.ListN.{length, take, drop};
 ghost use Rattle.binary_office.specs.Fields.{le16At, le32At};
-ghost use Rattle.binary_office.specs.Walk.{stepAt, nextAt, walk, walkedOf, neverEncrypted, clearLen};
+ghost use Rattle.binary_office.specs.Walk.{stepAt, nextOf, nextAt, walk, walkedOf, neverEncrypted, clearLen};
 ghost use Rattle.binary_office.specs.Look.{versionOf, sizeOf, factsOf, scanAt, look, sameVersion, sameSize, sameFacts, sameVerdict, sameLock};
 
 // A field of two bytes: its value, or that it is cut short.
@@ -118,11 +118,12 @@ pub fn step_at(s: &[u8], at: usize) -> Step
     }
 }
 
-// Where the next header stands, behind the record at an offset; where there is none, the offset itself.
-pub fn next_at(s: &[u8], at: usize) -> usize
-    ensures { λ r. ⌜ r ≡ nextAt (now (s .entry)) at ⌝ }
+// Where the next header stands, by what was found at an offset; where there is no record, the offset itself.
+fn next_of(at: usize, found: Step) -> usize
+    requires { ⌜ nextOf at found < 2 ^ 64 ⌝ }
+    ensures { λ r. ⌜ r ≡ nextOf at found ⌝ }
 {
-    match step_at(s, at) {
+    match found {
         Step::End => at,
         Step::Fault(_) => at,
         Step::Record(_, len) => at + 4 + (len as usize),
@@ -380,37 +381,45 @@ pub struct BiffRecords<'a> {
     pub pos: usize,
 }
 
-// The records of a stream from its start.
-pub fn biff_records<'a>(book: &'a [u8]) -> BiffRecords<'a>
-    ensures { λ r. ⌜ (r .book ≡ book .entry) × (r .pos ≡ 0) ⌝ }
-{
-    BiffRecords { book, pos: 0 }
+// A step of the walker: the stream and the position behind what was found, of which `biff_records` makes
+// the walker that goes on, and what was found.
+pub struct Stepped<'a> {
+    pub book: &'a [u8],
+    pub pos: usize,
+    pub found: Step,
 }
 
-// What stands at the walker's position.
-pub fn next<'a>(r: BiffRecords<'a>) -> Step
-    ensures { λ s. ⌜ s ≡ stepAt (now (r .entry .book)) (r .entry .pos) ⌝ }
-{
-    step_at(r.book, r.pos)
+// What stands at an offset, and where the next header stands; where there is no record, the offset itself.
+pub struct Reached {
+    pub found: Step,
+    pub next: usize,
 }
 
-// Where the header behind the record at the walker's position stands.
-pub fn next_pos<'a>(r: BiffRecords<'a>) -> usize
-    ensures { λ n. ⌜ n ≡ nextAt (now (r .entry .book)) (r .entry .pos) ⌝ }
+// The records of a stream from an offset on.
+pub fn biff_records<'a>(book: &'a [u8], pos: usize) -> BiffRecords<'a>
+    ensures { λ r. ⌜ (r .book ≡ book .entry) × (r .pos ≡ pos) ⌝ }
 {
-    next_at(r.book, r.pos)
+    BiffRecords { book, pos }
 }
 
-// The walker at another position of the same stream.
-pub fn moved<'a>(r: BiffRecords<'a>, pos: usize) -> BiffRecords<'a>
-    ensures { λ q. ⌜ (q .book ≡ r .entry .book) × (q .pos ≡ pos) ⌝ }
+// What stands at the walker's position, and the walker behind it. At a fault and at the end it stays.
+pub fn next<'a>(r: BiffRecords<'a>) -> Stepped<'a>
+    ensures { λ s. ⌜ (s .book ≡ r .entry .book) × (s .pos ≡ nextAt (now (r .entry .book)) (r .entry .pos)) × (s .found ≡ stepAt (now (r .entry .book)) (r .entry .pos)) ⌝ }
 {
-    BiffRecords { book: r.book, pos }
+    let book = r.book;
+    let at = r.pos;
+    let found = step_at(book, at);
+    let pos = next_of(at, found);
+    Stepped { book, pos, found }
 }
 
-// The first record of a stream, by way of the walker.
-pub fn first_record(book: &[u8]) -> Step
-    ensures { λ r. ⌜ r ≡ stepAt (now (book .entry)) 0 ⌝ }
+// The record at an offset, by way of a walker made there.
+pub fn record_at(book: &[u8], at: usize) -> Reached
+    ensures { λ r. ⌜ (r .found ≡ stepAt (now (book .entry)) at) × (r .next ≡ nextAt (now (book .entry)) at) ⌝ }
 {
-    next(biff_records(book))
+    let step = next(biff_records(book, at));
+    Reached {
+        found: step.found,
+        next: step.pos,
+    }
 }
