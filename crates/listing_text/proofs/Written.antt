@@ -73,13 +73,14 @@ pub record Listed (s : List ℕ) (n at : ℕ) (d : List ℕ) (n′ : ℕ) (d′ 
 pub listed-none : (s : List ℕ) (n : ℕ) (d : List ℕ) → Listed s n 0 d n d
 listed-none s n d = record { sofar = []; whole = refl; puts = puts-none n d }
 
-pub listed-on : {n n′ n″ : ℕ} {d d′ d″ : List ℕ} (s : List ℕ) (at id len : ℕ) → stepAt s at ≡ step.Record id len → Listed s n at d n′ d′
-    → Puts (line (record { at = at; id = id; len = len })) n′ d′ n″ d″ → Listed s n (at + 4 + len) d n″ d″
-listed-on s at id len e l p =
+pub listed-on : {n n′ n″ : ℕ} {d d′ d″ : List ℕ} (s : List ℕ) (at id len next : ℕ) → stepAt s at ≡ step.Record id len → next ≡ at + 4 + len
+    → Listed s n at d n′ d′ → Puts (line (record { at = at; id = id; len = len })) n′ d′ n″ d″ → Listed s n next d n″ d″
+listed-on s at id len next e b l p =
     let r = line (record { at = at; id = id; len = len }) in
+    let tail : r ++ rest s next ≡ rest s at = ap (λ (k : ℕ). r ++ rest s k) b ∙ sym (rest-record s at id len e) in
     record {
       sofar = l .sofar ++ r;
-      whole = append-assoc (l .sofar) r (rest s (at + 4 + len)) ∙ ap (λ (t : List ℕ). l .sofar ++ t) (sym (rest-record s at id len e)) ∙ l .whole;
+      whole = append-assoc (l .sofar) r (rest s next) ∙ ap (λ (t : List ℕ). l .sofar ++ t) tail ∙ l .whole;
       puts = puts-join (l .sofar) r (l .puts) p;
     }
 

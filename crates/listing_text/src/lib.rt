@@ -119,12 +119,14 @@ fn put_walk(out: &mut [u8], n: usize, stream: &[u8]) -> usize
     let mut n = n;
     let mut at: usize = 0;
     loop {
-        match binary_office::step_at(stream, at) {
+        let reached = binary_office::record_at(stream, at);
+        let step = reached.found;
+        match step {
             Step::End => return n,
             Step::Fault(place) => return put_fault(out, n, place),
             Step::Record(id, len) => {
                 n = put_line(out, n, at, id, len);
-                at = at + 4 + (len as usize);
+                at = reached.next;
             }
         }
     }

@@ -165,7 +165,8 @@ pub extern "C" fn sheet_same_lock(a: &[u8], b: &[u8]) -> bool
 pub extern "C" fn sheet_record(stream: &[u8], at: usize, told: &mut [u64; 8]) -> u32
     ensures { λ r. ⌜ (r ≡ recordNumber (stepAt (now (stream .entry)) at)) × (now (told .exit) ≡ recordFacts (stepAt (now (stream .entry)) at)) ⌝ }
 {
-    let step = binary_office::step_at(stream, at);
+    let reached = binary_office::record_at(stream, at);
+    let step = reached.found;
     *told = record_facts(step);
     record_number(step)
 }

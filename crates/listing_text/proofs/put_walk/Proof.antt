@@ -1,10 +1,12 @@
--- `listing_text::put_walk` meets its contract: the text so far, and that of the walk from the offset on, make the whole; six bytes of text for each byte passed are enough to bound it.
+-- `listing_text::put_walk` meets its contract: the text so far, and that of the walk from the offset on,
+-- make the whole; six bytes of text for each byte passed are enough to bound it.
 -- Assumes nothing.
 use borrow.Author.Needs.{needs}
-use mathlib.Core.Path.{_≡_, refl, sym, _∙_}
+use mathlib.Core.Path.{_≡_, refl, sym, ap, _∙_}
 use native.Mathlib.Omega.{arith}
 use Prim.Native.Nat.{_+_, _*_, _≤_, _-_}
 use lib.ListN.{length}
+use Rattle.binary_office.specs.Walk.{nextOf}
 use Rattle.binary_office.proofs.Walks.{record-within, fault-place}
 use Rattle.listing_text.proofs.Written.{Listed, listed-none, listed-on, listed-end, listed-fault}
 use Rattle.listing_text.proofs.put_walk.Statement.{statement}
@@ -23,46 +25,68 @@ same-length : tie.Need-same-length Inv-loop μ-loop
 same-length c = c .before .before .before .loop .inv .2
 
 returns : tie.Need-returns Inv-loop μ-loop
-returns c = listed-end (c .before .before .before .before .before .before .args .stream .now) (c .before .before .before .loop .at) (sym (c .before .before .step-at .ensures) ∙ c .enum-told .given .1) (c .before .before .before .loop .inv .3)
+returns c =
+    let asked = c .before .before in
+    let turn = c .before .before .before in
+    let start = c .before .before .before .before .before .before in
+    listed-end (start .args .stream .now) (turn .loop .at) (sym (asked .record-at .ensures .0) ∙ c .enum-told .given .1) (turn .loop .inv .3)
 
 put-fault-requires : tie.Need-put-fault-requires Inv-loop μ-loop
 put-fault-requires c κs =
-    let h = fault-place (c .before .before .before .before .before .before .before .before .args .stream .now) (c .before .before .before .before .before .loop .at) _ (sym (c .before .before .before .before .step-at .ensures) ∙ c .before .before .place .given .1) in
+    let place = c .before .before in
+    let asked = c .before .before .before .before in
+    let turn = c .before .before .before .before .before in
+    let start = c .before .before .before .before .before .before .before .before in
+    let h = fault-place (start .args .stream .now) (turn .loop .at) _ (sym (asked .record-at .ensures .0) ∙ place .step .given .1) in
     omega arith
 
 same-length-2 : tie.Need-same-length-2 Inv-loop μ-loop
 same-length-2 c = c .before .before .put-fault .kept .0 ∙ c .before .before .before .before .before .before .before .before .loop .inv .2
 
 returns-2 : tie.Need-returns-2 Inv-loop μ-loop
-returns-2 c = listed-fault (c .before .before .before .before .before .before .before .before .before .before .before .args .stream .now) (c .before .before .before .before .before .before .before .before .loop .at) _ (sym (c .before .before .before .before .before .before .before .step-at .ensures) ∙ c .before .before .before .before .before .place .given .1) (c .before .before .before .before .before .before .before .before .loop .inv .3) (c .before .before .put-fault .ensures)
+returns-2 c =
+    let wrote = c .before .before in
+    let place = c .before .before .before .before .before in
+    let asked = c .before .before .before .before .before .before .before in
+    let turn = c .before .before .before .before .before .before .before .before in
+    let start = c .before .before .before .before .before .before .before .before .before .before .before in
+    let e = sym (asked .record-at .ensures .0) ∙ place .step .given .1 in
+    listed-fault (start .args .stream .now) (turn .loop .at) _ e (turn .loop .inv .3) (wrote .put-fault .ensures)
 
 put-line-requires : tie.Need-put-line-requires Inv-loop μ-loop
 put-line-requires c κs =
-    let h = record-within (c .before .before .before .before .before .before .before .before .args .stream .now) (c .before .before .before .before .before .loop .at) _ _ (sym (c .before .before .before .before .step-at .ensures) ∙ c .before .before .id .given .1) in
-    omega arith
-
-add-at : tie.Need-add-at Inv-loop μ-loop
-add-at c =
-    let h = record-within (c .before .before .before .before .before .before .before .before .before .before .before .args .stream .now) (c .before .before .before .before .before .before .before .before .loop .at) _ _ (sym (c .before .before .before .before .before .before .before .step-at .ensures) ∙ c .before .before .before .before .before .id .given .1) in
-    omega arith
-
-add-at-2 : tie.Need-add-at-2 Inv-loop μ-loop
-add-at-2 c =
-    let h = record-within (c .before .before .before .before .before .before .before .before .before .before .before .args .stream .now) (c .before .before .before .before .before .before .before .before .loop .at) _ _ (sym (c .before .before .before .before .before .before .before .step-at .ensures) ∙ c .before .before .before .before .before .id .given .1) in
+    let line = c .before .before in
+    let asked = c .before .before .before .before in
+    let turn = c .before .before .before .before .before in
+    let start = c .before .before .before .before .before .before .before .before in
+    let h = record-within (start .args .stream .now) (turn .loop .at) _ _ (sym (asked .record-at .ensures .0) ∙ line .step2 .given .1) in
     omega arith
 
 loop-less : tie.Need-loop-less Inv-loop μ-loop
 loop-less c =
-    let h = record-within (c .before .before .before .before .before .before .before .before .before .before .before .args .stream .now) (c .before .before .before .before .before .before .before .before .loop .at) _ _ (sym (c .before .before .before .before .before .before .before .step-at .ensures) ∙ c .before .before .before .before .before .id .given .1) in
+    let line = c .before .before .before .before .before in
+    let asked = c .before .before .before .before .before .before .before in
+    let turn = c .before .before .before .before .before .before .before .before in
+    let start = c .before .before .before .before .before .before .before .before .before .before .before in
+    let e = sym (asked .record-at .ensures .0) ∙ line .step2 .given .1 in
+    let h = record-within (start .args .stream .now) (turn .loop .at) _ _ e in
+    let b = asked .record-at .ensures .1 ∙ ap (nextOf (turn .loop .at)) e in
     omega arith
 
 loop-again : tie.Need-loop-again Inv-loop μ-loop
 loop-again c =
-    let h = record-within (c .before .before .before .before .before .before .before .before .before .before .before .args .stream .now) (c .before .before .before .before .before .before .before .before .loop .at) _ _ (sym (c .before .before .before .before .before .before .before .step-at .ensures) ∙ c .before .before .before .before .before .id .given .1) in (
-      h,
-      omega (arith, c .before .before .put-line .ensures .1),
-      c .before .before .put-line .kept .0 ∙ c .before .before .before .before .before .before .before .before .loop .inv .2,
-      listed-on (c .before .before .before .before .before .before .before .before .before .before .before .args .stream .now) (c .before .before .before .before .before .before .before .before .loop .at) _ _ (sym (c .before .before .before .before .before .before .before .step-at .ensures) ∙ c .before .before .before .before .before .id .given .1) (c .before .before .before .before .before .before .before .before .loop .inv .3) (c .before .before .put-line .ensures .0),
+    let wrote = c .before .before in
+    let line = c .before .before .before .before .before in
+    let asked = c .before .before .before .before .before .before .before in
+    let turn = c .before .before .before .before .before .before .before .before in
+    let start = c .before .before .before .before .before .before .before .before .before .before .before in
+    let e = sym (asked .record-at .ensures .0) ∙ line .step2 .given .1 in
+    let h = record-within (start .args .stream .now) (turn .loop .at) _ _ e in
+    let b = asked .record-at .ensures .1 ∙ ap (nextOf (turn .loop .at)) e in (
+      omega arith,
+      omega (arith, wrote .put-line .ensures .1),
+      wrote .put-line .kept .0 ∙ turn .loop .inv .2,
+      listed-on (start .args .stream .now) (turn .loop .at) _ _ _ e b (turn .loop .inv .3) (wrote .put-line .ensures .0),
     )
 
 pub put-walk-spec : {M : Type 1} → statement M
@@ -82,8 +106,5 @@ put-walk-spec =
     returns-2
     (λ c. search needs)
     put-line-requires
-    add-at
-    (λ c. search needs)
-    add-at-2
     loop-less
     loop-again)
