@@ -74,7 +74,8 @@ module _ (s : List ℕ) where
   unfolding walkFrom
   from-fault f at p e = rw (e, walkFrom)
 
-  from-record : (f at id len : ℕ) → stepAt s at ≡ step.Record id len → walkFrom (suc f) s at ≡ behind (record { at = at; id = id; len = len }) (walkFrom f s (at + 4 + len))
+  from-record : (f at id len : ℕ) → stepAt s at ≡ step.Record id len
+      → walkFrom (suc f) s at ≡ behind (record { at = at; id = id; len = len }) (walkFrom f s (at + 4 + len))
   unfolding walkFrom
   from-record f at id len e = rw (e, walkFrom)
 

@@ -84,7 +84,7 @@ openFacts (Opened r) = facts (r .records) (lockNumber (r .lock)) (r .«key_bits�
 openFacts (Refused r) = facts (first r) (second r) 0 0 0
 
 -- what `sheet_open` answers and leaves
-pub record Opens (stream password scratch output : List ℕ) (number : ℕ) (scratch′ output′ facts′ : List ℕ) : Type 0 where
+pub record OpensInC (stream password scratch output : List ℕ) (number : ℕ) (scratch′ output′ facts′ : List ℕ) : Type 0 where
   pub answered : number ≡ openNumber (outcome stream password scratch output .answer)
   pub told : facts′ ≡ openFacts (outcome stream password scratch output .answer)
   pub scratch-left : scratch′ ≡ outcome stream password scratch output .scratch

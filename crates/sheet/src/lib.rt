@@ -4,7 +4,7 @@ ghost use mathlib.Core.Path.{_≡_};
 ghost use Rattle.laws.specs.Choice.{pick};
 ghost use Rattle.binary_office.specs.Walk.{stepAt};
 ghost use Rattle.binary_office.specs.Look.{look, sameLock};
-ghost use Rattle.sheet.specs.Facts.{flag, facts, lookNumber, lookFacts, recordNumber, recordFacts, bitsOf, thereOf, majorOf, minorOf, lockNumber, openNumber, openFacts, Opens};
+ghost use Rattle.sheet.specs.Facts.{flag, facts, lookNumber, lookFacts, recordNumber, recordFacts, bitsOf, thereOf, majorOf, minorOf, lockNumber, openNumber, openFacts, OpensInC};
 
 // True is 1.
 fn flag(b: bool) -> u64
@@ -180,7 +180,7 @@ pub extern "C" fn sheet_open(
     output: &mut [u8],
     told: &mut [u64; 8],
 ) -> u32
-    ensures { λ r. ⌜ Opens (now (stream .entry)) (now (password .entry)) (now (scratch .entry)) (now (output .entry)) r (now (scratch .exit)) (now (output .exit)) (now (told .exit)) ⌝ }
+    ensures { λ r. ⌜ OpensInC (now (stream .entry)) (now (password .entry)) (now (scratch .entry)) (now (output .entry)) r (now (scratch .exit)) (now (output .exit)) (now (told .exit)) ⌝ }
 {
     let answer = excel97::open(stream, password, scratch, output);
     *told = open_facts(answer);

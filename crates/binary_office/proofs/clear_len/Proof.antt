@@ -14,7 +14,10 @@ returns c = stop _ (sym (c .before .never-encrypted .ensures) ∙ c .if1 .taken)
 
 returns-2 : tie.Need-returns-2
 unfolding clearLen
-returns-2 c = skip _ (sym (c .before .before .before .never-encrypted .ensures) ∙ c .before .before .if1 .left) (c .least .ensures ∙ stop _ (eq-eqb _ _ (c .before .if2 .taken)))
+returns-2 c =
+    let at-if1 = c .before .before in
+    let at-never-encrypted = at-if1 .before in
+    skip _ (sym (at-never-encrypted .never-encrypted .ensures) ∙ at-if1 .if1 .left) (c .least .ensures ∙ stop _ (eq-eqb _ _ (c .before .if2 .taken)))
 
 returns-3 : tie.Need-returns-3
 unfolding clearLen

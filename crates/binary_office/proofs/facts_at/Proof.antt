@@ -9,8 +9,10 @@ use Rattle.binary_office.proofs.facts_at.Tie as tie
 
 returns : tie.Need-returns
 returns c =
-    let a = c .before .before .before .before .args in
-    c .facts-of .ensures ∙ ap factsOf (body-cut (a .book .now) (a .start) (a .len) (c .before .before .least-usize .result) _ (c .before .before .least-usize .ensures) refl)
+    let at-least-usize = c .before .before in
+    let start = at-least-usize .before .before in
+    let a = start .args in
+    c .facts-of .ensures ∙ ap factsOf (body-cut (a .book .now) (a .start) (a .len) (at-least-usize .least-usize .result) _ (at-least-usize .least-usize .ensures) refl)
 
 pub facts-at-spec : {M : Type 1} → statement M
 facts-at-spec =

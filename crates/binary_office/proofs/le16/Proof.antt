@@ -10,10 +10,14 @@ returns : tie.Need-returns
 returns c = le16-short (c .before .before .args .s .now) (c .before .before .args .at) (omega arith)
 
 returns-2 : tie.Need-returns-2
-returns-2 c = le16-short (c .before .before .before .args .s .now) (c .before .before .before .args .at) (omega arith)
+returns-2 c =
+    let start = c .before .before .before in
+    le16-short (start .args .s .now) (start .args .at) (omega arith)
 
 returns-3 : tie.Need-returns-3
-returns-3 c = le16-value (c .before .before .before .before .before .before .args .s .now) (c .before .before .before .before .before .before .args .at) (c .two-bytes .result) (omega arith) (c .two-bytes .ensures)
+returns-3 c =
+    let start = c .before .before .before .before .before .before in
+    le16-value (start .args .s .now) (start .args .at) (c .two-bytes .result) (omega arith) (c .two-bytes .ensures)
 
 pub le16-spec : {M : Type 1} → statement M
 le16-spec =

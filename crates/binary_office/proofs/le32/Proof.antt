@@ -10,10 +10,14 @@ returns : tie.Need-returns
 returns c = le32-short (c .before .before .args .s .now) (c .before .before .args .at) (omega arith)
 
 returns-2 : tie.Need-returns-2
-returns-2 c = le32-short (c .before .before .before .args .s .now) (c .before .before .before .args .at) (omega arith)
+returns-2 c =
+    let start = c .before .before .before in
+    le32-short (start .args .s .now) (start .args .at) (omega arith)
 
 returns-3 : tie.Need-returns-3
-returns-3 c = le32-value (c .before .before .before .before .before .before .before .before .args .s .now) (c .before .before .before .before .before .before .before .before .args .at) (c .from-le-bytes .result) (omega arith) (c .from-le-bytes .ensures)
+returns-3 c =
+    let start = c .before .before .before .before .before .before .before .before in
+    le32-value (start .args .s .now) (start .args .at) (c .from-le-bytes .result) (omega arith) (c .from-le-bytes .ensures)
 
 pub le32-spec : {M : Type 1} → statement M
 le32-spec =

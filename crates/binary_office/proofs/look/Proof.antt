@@ -12,23 +12,34 @@ use Rattle.binary_office.proofs.look.Tie as tie
 
 returns : tie.Need-returns
 returns c =
-    let s = c .before .before .before .before .before .before .args .stream .now in
-    let b = book-cut s 1048576 (c .before .before .before .before .least-usize .result) (c .before .before .before .before .least-usize .ensures) in
-    let h = sym (c .enum-told .given .1) ∙ c .before .before .le16 .ensures ∙ ap (λ (l : List ℕ). le16At l 0) b in
+    let at-le16 = c .before .before in
+    let at-least-usize = at-le16 .before .before in
+    let start = at-least-usize .before .before in
+    let s = start .args .stream .now in
+    let b = book-cut s 1048576 (at-least-usize .least-usize .result) (at-least-usize .least-usize .ensures) in
+    let h = sym (c .enum-told .given .1) ∙ at-le16 .le16 .ensures ∙ ap (λ (l : List ℕ). le16At l 0) b in
     look-short s h
 
 returns-2 : tie.Need-returns-2
 returns-2 c =
-    let s = c .before .before .before .before .before .before .before .before .before .args .stream .now in
-    let b = book-cut s 1048576 (c .before .before .before .before .before .before .before .least-usize .result) (c .before .before .before .before .before .before .before .least-usize .ensures) in
-    let h = sym (c .before .before .before .id .given .1) ∙ c .before .before .before .before .before .le16 .ensures ∙ ap (λ (l : List ℕ). le16At l 0) b in
+    let at-id = c .before .before .before in
+    let at-le16 = at-id .before .before in
+    let at-least-usize = at-le16 .before .before in
+    let start = at-least-usize .before .before in
+    let s = start .args .stream .now in
+    let b = book-cut s 1048576 (at-least-usize .least-usize .result) (at-least-usize .least-usize .ensures) in
+    let h = sym (at-id .id .given .1) ∙ at-le16 .le16 .ensures ∙ ap (λ (l : List ℕ). le16At l 0) b in
     look-scan s _ h (c .scan .result) (c .before .if1 .taken) (c .scan .ensures ∙ ap (λ (l : List ℕ). scanAt l 0) b)
 
 returns-3 : tie.Need-returns-3
 returns-3 c =
-    let s = c .before .before .before .before .before .before .before .before .args .stream .now in
-    let b = book-cut s 1048576 (c .before .before .before .before .before .before .least-usize .result) (c .before .before .before .before .before .before .least-usize .ensures) in
-    let h = sym (c .before .before .id .given .1) ∙ c .before .before .before .before .le16 .ensures ∙ ap (λ (l : List ℕ). le16At l 0) b in
+    let at-id = c .before .before in
+    let at-le16 = at-id .before .before in
+    let at-least-usize = at-le16 .before .before in
+    let start = at-least-usize .before .before in
+    let s = start .args .stream .now in
+    let b = book-cut s 1048576 (at-least-usize .least-usize .result) (at-least-usize .least-usize .ensures) in
+    let h = sym (at-id .id .given .1) ∙ at-le16 .le16 .ensures ∙ ap (λ (l : List ℕ). le16At l 0) b in
     look-other s _ h (c .if1 .left)
 
 pub look-spec : {M : Type 1} → statement M

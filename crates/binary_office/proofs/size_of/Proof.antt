@@ -7,16 +7,39 @@ use Rattle.binary_office.proofs.size_of.Statement.{statement}
 use Rattle.binary_office.proofs.size_of.Tie as tie
 
 returns-2 : tie.Need-returns-2
-returns-2 c = size-short (c .before .before .before .before .before .before .before .before .args .body .now) (c .before .before .before .before .before .before .before .before .args .version) _ _ (c .before .before .before .before .before .version .given .1) (c .before .before .before .if1 .taken) (sym (c .enum-told2 .given .1) ∙ c .before .before .le32 .ensures)
+returns-2 c =
+    let at-le32 = c .before .before in
+    let at-if1 = at-le32 .before in
+    let at-version = at-if1 .before .before in
+    let start = at-version .before .before .before in
+    size-short (start .args .body .now) (start .args .version) _ _ (at-version .version .given .1) (at-if1 .if1 .taken)
+    (sym (c .enum-told2 .given .1) ∙ at-le32 .le32 .ensures)
 
 returns-3 : tie.Need-returns-3
-returns-3 c = size-bits (c .before .before .before .before .before .before .before .before .before .before .args .body .now) (c .before .before .before .before .before .before .before .before .before .before .args .version) _ _ (c .before .before .before .before .before .before .before .version .given .1) (c .before .before .before .before .before .if1 .taken) _ (sym (c .before .before .bits .given .1) ∙ c .before .before .before .before .le32 .ensures) (c .if2 .taken)
+returns-3 c =
+    let at-bits = c .before .before in
+    let at-le32 = at-bits .before .before in
+    let at-if1 = at-le32 .before in
+    let at-version = at-if1 .before .before in
+    let start = at-version .before .before .before in
+    size-bits (start .args .body .now) (start .args .version) _ _ (at-version .version .given .1) (at-if1 .if1 .taken) _
+    (sym (at-bits .bits .given .1) ∙ at-le32 .le32 .ensures) (c .if2 .taken)
 
 returns-4 : tie.Need-returns-4
-returns-4 c = size-out (c .before .before .before .before .before .before .before .before .before .before .args .body .now) (c .before .before .before .before .before .before .before .before .before .before .args .version) _ _ (c .before .before .before .before .before .before .before .version .given .1) (c .before .before .before .before .before .if1 .taken) _ (sym (c .before .before .bits .given .1) ∙ c .before .before .before .before .le32 .ensures) (c .if2 .left)
+returns-4 c =
+    let at-bits = c .before .before in
+    let at-le32 = at-bits .before .before in
+    let at-if1 = at-le32 .before in
+    let at-version = at-if1 .before .before in
+    let start = at-version .before .before .before in
+    size-out (start .args .body .now) (start .args .version) _ _ (at-version .version .given .1) (at-if1 .if1 .taken) _
+    (sym (at-bits .bits .given .1) ∙ at-le32 .le32 .ensures) (c .if2 .left)
 
 returns-5 : tie.Need-returns-5
-returns-5 c = size-other (c .before .before .before .before .before .args .body .now) (c .before .before .before .before .before .args .version) _ _ (c .before .before .version .given .1) (c .if1 .left)
+returns-5 c =
+    let at-version = c .before .before in
+    let start = at-version .before .before .before in
+    size-other (start .args .body .now) (start .args .version) _ _ (at-version .version .given .1) (c .if1 .left)
 
 pub size-of-spec : {M : Type 1} → statement M
 size-of-spec =

@@ -19,18 +19,34 @@ loop-holds : tie.Need-loop-holds Inv-loop μ-loop
 loop-holds c = passed-none _
 
 returns : tie.Need-returns Inv-loop μ-loop
-returns c = passed-end (c .before .before .before .before .before .args .s .now) _ _ (c .before .before .before .loop .inv) (sym (c .before .before .step-at .ensures) ∙ c .enum-told .given .1)
+returns c =
+    let at-step-at = c .before .before in
+    let at-loop = at-step-at .before in
+    let start = at-loop .before .before in
+    passed-end (start .args .s .now) _ _ (at-loop .loop .inv) (sym (at-step-at .step-at .ensures) ∙ c .enum-told .given .1)
 
 returns-2 : tie.Need-returns-2 Inv-loop μ-loop
-returns-2 c = passed-fault (c .before .before .before .before .before .before .args .s .now) _ _ _ (c .before .before .before .before .loop .inv) (sym (c .before .before .before .step-at .ensures) ∙ c .before .place .given .1)
+returns-2 c =
+    let at-step-at = c .before .before .before in
+    let at-loop = at-step-at .before in
+    let start = at-loop .before .before in
+    passed-fault (start .args .s .now) _ _ _ (at-loop .loop .inv) (sym (at-step-at .step-at .ensures) ∙ c .before .place .given .1)
 
 loop-less : tie.Need-loop-less Inv-loop μ-loop
 loop-less c =
-    let h = record-within (c .before .before .before .before .before .before .args .s .now) (c .before .before .before .before .loop .at) _ _ (sym (c .before .before .before .step-at .ensures) ∙ c .before .len .given .1) in
+    let at-step-at = c .before .before .before in
+    let at-loop = at-step-at .before in
+    let start = at-loop .before .before in
+    let h = record-within (start .args .s .now) (at-loop .loop .at) _ _ (sym (at-step-at .step-at .ensures) ∙ c .before .len .given .1) in
     omega arith
 
 loop-again : tie.Need-loop-again Inv-loop μ-loop
-loop-again c = passed-on (c .before .before .before .before .before .before .args .s .now) (c .before .before .before .before .loop .at) (c .before .before .before .before .loop .records) _ _ (c .before .before .before .before .loop .inv) (sym (c .before .before .before .step-at .ensures) ∙ c .before .len .given .1)
+loop-again c =
+    let at-step-at = c .before .before .before in
+    let at-loop = at-step-at .before in
+    let loop = at-loop .loop in
+    let start = at-loop .before .before in
+    passed-on (start .args .s .now) (loop .at) (loop .records) _ _ (loop .inv) (sym (at-step-at .step-at .ensures) ∙ c .before .len .given .1)
 
 pub walk-spec : {M : Type 1} → statement M
 walk-spec =

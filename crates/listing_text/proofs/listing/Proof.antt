@@ -9,10 +9,20 @@ use Rattle.listing_text.proofs.listing.Statement.{statement}
 use Rattle.listing_text.proofs.listing.Tie as tie
 
 returns : tie.Need-returns
-returns c = rw (sym (text-short (c .before .before .before .before .before .before .before .before .before .before .before .before .args .stream .now) (c .before .before .before .before .before .before .before .before .before .if1 .taken))) (puts-join header (ofWalk (walk (c .before .before .before .before .before .before .before .before .before .before .before .before .args .stream .now))) (c .before .before .before .before .before .before .put-bytes .ensures) (c .before .before .put-walk .ensures))
+returns c =
+    let at-put-walk = c .before .before in
+    let at-put-bytes = at-put-walk .before .before .before .before in
+    let at-if1 = at-put-bytes .before .before .before in
+    let start = at-if1 .before .before .before in
+    rw (sym (text-short (start .args .stream .now) (at-if1 .if1 .taken)))
+    (puts-join header (ofWalk (walk (start .args .stream .now))) (at-put-bytes .put-bytes .ensures) (at-put-walk .put-walk .ensures))
 
 returns-2 : tie.Need-returns-2
-returns-2 c = rw (sym (text-long (c .before .before .before .before .before .before .before .before .args .stream .now) (c .before .before .before .before .before .if1 .left))) (c .before .before .put-bytes2 .ensures)
+returns-2 c =
+    let at-put-bytes2 = c .before .before in
+    let at-if1 = at-put-bytes2 .before .before .before in
+    let start = at-if1 .before .before .before in
+    rw (sym (text-long (start .args .stream .now) (at-if1 .if1 .left))) (at-put-bytes2 .put-bytes2 .ensures)
 
 pub listing-spec : {M : Type 1} → statement M
 listing-spec =

@@ -23,17 +23,27 @@ loop-holds c = (search needs, puts-none _ _, search needs, refl)
 
 loop-again : tie.Need-loop-again Inv-loop μ-loop
 loop-again c =
-    let l = c .before .before .before .before .before .before .loop in
-    let e = c .before .before .put .ensures .behind in
-    (search needs, puts-more (c .before .before .before .before .before .before .before .before .before .args .bytes .now) (l .i) (c .before .before .before .before .before .loop-test .taken) (l .inv .1) (c .before .before .put .ensures), omega arith, c .before .before .put .kept .0 ∙ l .inv .3)
+    let at-put = c .before .before in
+    let at-loop-test = at-put .before .before .before in
+    let at-loop = at-loop-test .before in
+    let start = at-loop .before .before .before in
+    let l = at-loop .loop in
+    let e = at-put .put .ensures .behind in (
+      search needs,
+      puts-more (start .args .bytes .now) (l .i) (at-loop-test .loop-test .taken) (l .inv .1)
+          (at-put .put .ensures),
+      omega arith,
+      at-put .put .kept .0 ∙ l .inv .3,
+    )
 
 same-length : tie.Need-same-length Inv-loop μ-loop
 same-length c = c .before .loop .inv .3
 
 returns : tie.Need-returns Inv-loop μ-loop
 returns c =
+    let start = c .before .before .before .before in
     let l = c .before .loop in
-    let b = c .before .before .before .before .args .bytes .now in
+    let b = start .args .bytes .now in
     let e : l .i ≡ length b = omega arith in
     let t : take (l .i) b ≡ b = rw e (take-all (length b) b (le-refl (length b))) in
     rw t at (l .inv .1)

@@ -8,7 +8,13 @@ use Rattle.listing_text.proofs.put_fault.Statement.{statement}
 use Rattle.listing_text.proofs.put_fault.Tie as tie
 
 returns : tie.Need-returns
-returns c = puts-join (unreadable ++ decimal (c .before .before .before .before .before .before .before .before .before .before .before .before .before .before .args .place)) _ (puts-join unreadable _ (c .before .before .before .before .before .before .before .before .before .before .put-bytes .ensures) (c .before .before .before .before .before .before .put-decimal .ensures .0)) (c .before .before .put .ensures)
+returns c =
+    let at-put = c .before .before in
+    let at-put-decimal = at-put .before .before .before .before in
+    let at-put-bytes = at-put-decimal .before .before .before .before in
+    let start = at-put-bytes .before .before .before .before in
+    puts-join (unreadable ++ decimal (start .args .place)) _
+    (puts-join unreadable _ (at-put-bytes .put-bytes .ensures) (at-put-decimal .put-decimal .ensures .0)) (at-put .put .ensures)
 
 pub put-fault-spec : {M : Type 1} → statement M
 put-fault-spec =

@@ -14,10 +14,15 @@ use Rattle.listing_text.proofs.put_placed.Tie as tie
 
 returns : tie.Need-returns
 returns c =
-    let a = c .before .before .before .before .before .before .before .args in
-    let g : placed (a .x) (a .unit) ≡ c .before .before .before .digit .result ∷ [] = taken _ _ (le-leb (a .unit) (a .x) (c .before .before .before .before .before .if1 .taken)) ∙ ap (λ (n : ℕ). n ∷ []) (sym (c .before .before .before .digit .ensures)) in
-    let h = c .before .before .put .ensures .behind in
-    (rw g (c .before .before .put .ensures), omega arith)
+    let at-put = c .before .before in
+    let at-digit = at-put .before in
+    let at-if1 = at-digit .before .before in
+    let start = at-if1 .before .before in
+    let a = start .args in
+    let g : placed (a .x) (a .unit) ≡ at-digit .digit .result ∷ [] = taken _ _ (le-leb (a .unit) (a .x) (at-if1 .if1 .taken)) ∙ ap (λ (n : ℕ). n ∷ [])
+    (sym (at-digit .digit .ensures)) in
+    let h = at-put .put .ensures .behind in
+    (rw g (at-put .put .ensures), omega arith)
 
 returns-2 : tie.Need-returns-2
 returns-2 c =

@@ -41,7 +41,10 @@ put-fault-requires c κs =
     omega arith
 
 same-length-2 : tie.Need-same-length-2 Inv-loop μ-loop
-same-length-2 c = c .before .before .put-fault .kept .0 ∙ c .before .before .before .before .before .before .before .before .loop .inv .2
+same-length-2 c =
+    let at-put-fault = c .before .before in
+    let at-loop = at-put-fault .before .before .before .before .before .before in
+    at-put-fault .put-fault .kept .0 ∙ at-loop .loop .inv .2
 
 returns-2 : tie.Need-returns-2 Inv-loop μ-loop
 returns-2 c =

@@ -9,7 +9,10 @@ returns : tie.Need-returns
 returns c = c .facts .ensures ∙ rw (c .before .before .before .flag .ensures, c .before .enum-told .given .1)
 
 returns-2 : tie.Need-returns-2
-returns-2 c = c .facts2 .ensures ∙ rw (c .before .before .before .before .flag .ensures, c .before .before .version .given .1)
+returns-2 c =
+    let at-version = c .before .before in
+    let at-flag = at-version .before .before in
+    c .facts2 .ensures ∙ rw (at-flag .flag .ensures, at-version .version .given .1)
 
 pub by-version-spec : {M : Type 1} → statement M
 by-version-spec =

@@ -6,7 +6,10 @@ use Rattle.sheet.proofs.open_facts.Statement.{statement}
 use Rattle.sheet.proofs.open_facts.Tie as tie
 
 returns : tie.Need-returns
-returns c = c .facts .ensures ∙ rw (c .before .before .before .lock-number .ensures, c .before .flag .ensures, c .before .before .before .before .before .answer .given .1)
+returns c =
+    let at-lock-number = c .before .before .before in
+    let at-answer = at-lock-number .before .before in
+    c .facts .ensures ∙ rw (at-lock-number .lock-number .ensures, c .before .flag .ensures, at-answer .answer .given .1)
 
 returns-2 : tie.Need-returns-2
 returns-2 c = c .facts2 .ensures ∙ rw (c .before .details-of .ensures, c .before .before .before .answer2 .given .1)

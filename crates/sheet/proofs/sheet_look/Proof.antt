@@ -7,7 +7,9 @@ use Rattle.sheet.proofs.sheet_look.Statement.{statement}
 use Rattle.sheet.proofs.sheet_look.Tie as tie
 
 returns : tie.Need-returns
-returns c = (c .look-number .ensures ∙ ap lookNumber (c .before .before .look .ensures), c .before .look-facts .ensures ∙ ap lookFacts (c .before .before .look .ensures))
+returns c =
+    let at-look = c .before .before in
+    (c .look-number .ensures ∙ ap lookNumber (at-look .look .ensures), c .before .look-facts .ensures ∙ ap lookFacts (at-look .look .ensures))
 
 pub sheet-look-spec : {M : Type 1} → statement M
 sheet-look-spec =

@@ -8,11 +8,12 @@ use Rattle.sheet.proofs.sheet_open.Tie as tie
 
 returns : tie.Need-returns
 returns c =
+    let at-open = c .before .before .before .before .before .before in
     record {
-      answered = c .open-number .ensures ∙ ap openNumber (c .before .before .before .before .before .before .«open» .ensures .answered);
-      told = c .before .open-facts .ensures ∙ ap openFacts (c .before .before .before .before .before .before .«open» .ensures .answered);
-      scratch-left = c .before .before .before .before .before .before .«open» .ensures .scratch-left;
-      output-left = c .before .before .before .before .before .before .«open» .ensures .output-left;
+      answered = c .open-number .ensures ∙ ap openNumber (at-open .«open» .ensures .answered);
+      told = c .before .open-facts .ensures ∙ ap openFacts (at-open .«open» .ensures .answered);
+      scratch-left = at-open .«open» .ensures .scratch-left;
+      output-left = at-open .«open» .ensures .output-left;
     }
 
 pub sheet-open-spec : {M : Type 1} → statement M
