@@ -3,134 +3,21 @@
 mod common;
 
 use std::fs::{self, File, OpenOptions};
-use std::io::Write;
 use std::os::unix::fs::{symlink, MetadataExt, PermissionsExt};
 use std::os::unix::process::CommandExt;
-use std::path::{Path, PathBuf};
-use std::process::{Command, Output, Stdio};
+use std::process::{Command, Stdio};
 
+use common::bench::{Bench, Ran, PASSWORD, REPORT, SHEET};
 use common::book::{Book, Kind, BOF, FILEPASS, KINDS};
-use common::folder::Folder;
-
-const SHEET: &str = env!("CARGO_BIN_EXE_sheet");
-const PASSWORD: &str = "Hebungswinkel 50°";
-const REPORT: &str = "records\t186\nlock\tRC4 CryptoAPI\nkey size\t128\nsummary sealed\tno\n";
+use common::process::{run, Process};
 
 extern "C" {
-    fn setsid() -> i32;
     fn geteuid() -> u32;
     fn setrlimit(what: i32, limit: *const [u64; 2]) -> i32;
 }
 
 /// The resource limit of a file's size.
 const RLIMIT_FSIZE: i32 = 1;
-
-/// What came of a run.
-#[derive(Debug, PartialEq)]
-struct Ran {
-    status: Option<i32>,
-    out: String,
-    err: String,
-}
-
-impl Ran {
-    fn from(output: Output) -> Ran {
-        Ran {
-            status: output.status.code(),
-            out: String::from_utf8(output.stdout).unwrap(),
-            err: String::from_utf8(output.stderr).unwrap(),
-        }
-    }
-
-    /// Sees that it ended with a status and words on standard error, and printed nothing else.
-    #[track_caller]
-    fn failed(&self, status: i32, words: &[&str]) {
-        assert_eq!(self.status, Some(status), "{self:?}");
-        assert_eq!(self.out, "");
-        for word in words {
-            assert!(self.err.contains(word), "{word:?} in {:?}", self.err);
-        }
-    }
-}
-
-/// A folder with the sample book, and the command run in it.
-struct Bench {
-    folder: Folder,
-}
-
-impl Bench {
-    fn new() -> Bench {
-        let folder = Folder::new();
-        for name in ["calibres.bin", "calibres.password"] {
-            let sample = Path::new(env!("CARGO_MANIFEST_DIR"))
-                .join("examples")
-                .join(name);
-            fs::copy(sample, folder.join(name)).unwrap();
-        }
-        Bench { folder }
-    }
-
-    /// The command with these arguments, with no terminal and no password in the environment.
-    fn command(&self, line: &str) -> Command {
-        let mut command = Command::new(SHEET);
-        command
-            .args(line.split_whitespace())
-            .current_dir(self.folder.path())
-            .env_remove("SHEET_PASSWORD")
-            .stdin(Stdio::null());
-        // SAFETY: setsid may be called between fork and exec.
-        unsafe {
-            command.pre_exec(|| {
-                setsid();
-                Ok(())
-            })
-        };
-        command
-    }
-
-    fn run(&self, line: &str) -> Ran {
-        Ran::from(self.command(line).output().unwrap())
-    }
-
-    fn run_with(&self, line: &str, password: &str) -> Ran {
-        let mut command = self.command(line);
-        Ran::from(command.env("SHEET_PASSWORD", password).output().unwrap())
-    }
-
-    fn run_on(&self, line: &str, input: File) -> Ran {
-        let mut command = self.command(line);
-        Ran::from(command.stdin(input).output().unwrap())
-    }
-
-    fn file(&self, name: &str) -> File {
-        File::open(self.folder.join(name)).unwrap()
-    }
-
-    fn read(&self, name: &str) -> Vec<u8> {
-        fs::read(self.folder.join(name)).unwrap()
-    }
-
-    fn write(&self, name: &str, bytes: &[u8]) -> PathBuf {
-        self.folder.write(name, bytes)
-    }
-
-    /// The plain stream of the sample.
-    fn plain(&self) -> Vec<u8> {
-        let stream = self.read("calibres.bin");
-        let mut plain = vec![0; stream.len()];
-        let mut scratch = [0; sheet::SCRATCH_LEN];
-        sheet::open(&stream, PASSWORD.as_bytes(), &mut scratch, &mut plain).unwrap();
-        plain
-    }
-
-    /// Sees that the folder has these files beside the sample, and no others.
-    #[track_caller]
-    fn has_only(&self, others: &[&str]) {
-        let mut expected = [&["calibres.bin", "calibres.password"], others].concat();
-        expected.sort_unstable();
-        assert_eq!(self.folder.names(), expected);
-    }
-}
 
 #[test]
 fn look_tells_the_lock() {
@@ -317,8 +204,7 @@ fn passwords_that_no_book_has_are_refused_by_number() {
         }
         let mut command = bench.command("open calibres.bin -o plain");
         let value: std::ffi::OsString = std::os::unix::ffi::OsStringExt::from_vec(bytes);
-        let ran = Ran::from(command.env("SHEET_PASSWORD", value).output().unwrap());
-        ran.failed(1, &[&refused]);
+        Ran::of(command.env("SHEET_PASSWORD", value)).failed(1, &[&refused]);
     }
     bench.has_only(&["password"]);
 }
@@ -371,16 +257,8 @@ fn files_that_can_t_be_read() {
         bench
             .run_with(&format!("{command} calibres.bin/x"), PASSWORD)
             .failed(2, &["sheet: calibres.bin/x: ", "not a folder"]);
-        let drawer = File::open(bench.folder.join("drawer")).unwrap();
-        let mut child = bench.command(&format!("{command} -"));
-        let ran = Ran::from(
-            child
-                .env("SHEET_PASSWORD", PASSWORD)
-                .stdin(drawer)
-                .output()
-                .unwrap(),
-        );
-        ran.failed(2, &["standard input", "folder"]);
+        let mut command = bench.command_with(&format!("{command} -"), PASSWORD);
+        Ran::of(command.stdin(bench.file("drawer"))).failed(2, &["standard input", "folder"]);
     }
     for (file, words) in [("none", "no such file"), ("drawer", "folder")] {
         let line = format!("open calibres.bin -o plain --password-file {file}");
@@ -406,11 +284,9 @@ fn compound_files_are_told_from_streams() {
             ],
         );
         assert_eq!(ran.err.lines().count(), 1);
-        let mut child = bench.command(&format!("{command} -"));
-        child
-            .env("SHEET_PASSWORD", PASSWORD)
-            .stdin(bench.file("book.xls"));
-        Ran::from(child.output().unwrap()).failed(2, &["sheet: standard input: ", "gsf cat"]);
+        let mut command = bench.command_with(&format!("{command} -"), PASSWORD);
+        Ran::of(command.stdin(bench.file("book.xls")))
+            .failed(2, &["sheet: standard input: ", "gsf cat"]);
     }
     bench.has_only(&["book.xls"]);
 }
@@ -469,18 +345,14 @@ fn the_input_is_never_the_output() {
             ran.failed(2, &[&format!("sheet: {out}: "), same]);
         }
     }
-    let mut child = bench.command("open - -o hard");
-    child
-        .env("SHEET_PASSWORD", PASSWORD)
-        .stdin(bench.file("calibres.bin"));
-    Ran::from(child.output().unwrap()).failed(2, &["sheet: hard: ", same]);
+    let mut command = bench.command_with("open - -o hard", PASSWORD);
+    Ran::of(command.stdin(bench.file("calibres.bin"))).failed(2, &["sheet: hard: ", same]);
     let appended = OpenOptions::new()
         .append(true)
         .open(bench.folder.join("hard"))
         .unwrap();
-    let mut child = bench.command("open calibres.bin -o -");
-    child.env("SHEET_PASSWORD", PASSWORD).stdout(appended);
-    Ran::from(child.output().unwrap()).failed(2, &["sheet: standard output: ", same]);
+    let mut command = bench.command_with("open calibres.bin -o -", PASSWORD);
+    Ran::to(appended, &mut command).failed(2, &["sheet: standard output: ", same]);
     bench.has_only(&["hard", "soft"]);
     assert!(bench.read("calibres.bin") == before);
 }
@@ -523,37 +395,25 @@ fn an_output_that_is_there_is_replaced_when_the_new_one_is_whole() {
 fn standard_input_and_standard_output() {
     let bench = Bench::new();
     for line in ["open - -o -", "open calibres.bin -o -"] {
-        let mut child = bench.command(line);
-        child
-            .env("SHEET_PASSWORD", PASSWORD)
-            .stdin(bench.file("calibres.bin"));
-        let output = child.output().unwrap();
+        let mut command = bench.command_with(line, PASSWORD);
+        let output = run(command.stdin(bench.file("calibres.bin")));
         assert_eq!(output.status.code(), Some(0));
         assert!(output.stdout == bench.plain());
         assert_eq!(String::from_utf8(output.stderr).unwrap(), REPORT);
     }
-    let mut child = bench.command("open - -o plain");
-    child
-        .env("SHEET_PASSWORD", PASSWORD)
-        .stdin(bench.file("calibres.bin"));
-    assert_eq!(Ran::from(child.output().unwrap()).out, REPORT);
+    let mut command = bench.command_with("open - -o plain", PASSWORD);
+    let ran = Ran::of(command.stdin(bench.file("calibres.bin")));
+    assert_eq!(ran.out, REPORT);
     assert!(bench.read("plain") == bench.plain());
     // From a pipe, whose length nobody knows beforehand.
-    let mut child = bench.command("open - -o -");
-    child.env("SHEET_PASSWORD", PASSWORD);
-    child
+    let mut command = bench.command_with("open - -o -", PASSWORD);
+    command
         .stdin(Stdio::piped())
         .stdout(Stdio::piped())
         .stderr(Stdio::piped());
-    let mut child = child.spawn().unwrap();
-    child
-        .stdin
-        .take()
-        .unwrap()
-        .write_all(&bench.read("calibres.bin"))
-        .unwrap();
-    let output = child.wait_with_output().unwrap();
-    assert!(output.stdout == bench.plain());
+    let mut process = Process::start(&mut command);
+    process.write(&bench.read("calibres.bin"));
+    assert!(process.end().stdout == bench.plain());
     bench
         .run("open - -o plain --password-file -")
         .failed(2, &["both", "standard input"]);
@@ -572,17 +432,13 @@ fn a_full_disk_is_told() {
         "--help",
         "--version",
     ] {
-        let mut child = bench.command(line);
-        child.env("SHEET_PASSWORD", PASSWORD).stdout(full());
-        let ran = Ran::from(child.output().unwrap());
-        ran.failed(2, &["sheet: standard output: the disk is full"]);
+        Ran::to(full(), &mut bench.command_with(line, PASSWORD))
+            .failed(2, &["sheet: standard output: the disk is full"]);
     }
     bench.has_only(&[]);
     // The plain stream is written, and only the report is lost.
-    let mut child = bench.command("open calibres.bin -o plain");
-    child.env("SHEET_PASSWORD", PASSWORD).stdout(full());
-    Ran::from(child.output().unwrap())
-        .failed(2, &["the disk is full", "plain is written and whole"]);
+    let mut command = bench.command_with("open calibres.bin -o plain", PASSWORD);
+    Ran::to(full(), &mut command).failed(2, &["the disk is full", "plain is written and whole"]);
     assert!(bench.read("plain") == bench.plain());
     bench.has_only(&["plain"]);
 }
@@ -592,16 +448,15 @@ fn an_output_that_grows_too_large_is_not_left_half_written() {
     let bench = Bench::new();
     bench.write("old", b"old");
     for out in ["new", "old"] {
-        let mut child = bench.command(&format!("open calibres.bin -o {out}"));
+        let mut command = bench.command_with(&format!("open calibres.bin -o {out}"), PASSWORD);
         // SAFETY: setrlimit may be called between fork and exec.
         unsafe {
-            child.pre_exec(|| {
+            command.pre_exec(|| {
                 setrlimit(RLIMIT_FSIZE, &[1000, 1000]);
                 Ok(())
             })
         };
-        let ran = Ran::from(child.env("SHEET_PASSWORD", PASSWORD).output().unwrap());
-        ran.failed(
+        Ran::of(&mut command).failed(
             2,
             &[&format!("sheet: {out}: "), "larger than is allowed there"],
         );
@@ -643,13 +498,17 @@ fn no_permission_is_told() {
         command
             .args(line.split_whitespace())
             .current_dir(bench.folder.path());
-        command.env("SHEET_PASSWORD", PASSWORD).stdin(Stdio::null());
+        command
+            .env("SHEET_PASSWORD", PASSWORD)
+            .stdin(Stdio::null())
+            .stdout(Stdio::piped())
+            .stderr(Stdio::piped());
         // SAFETY: geteuid only tells a number.
         if unsafe { geteuid() } == 0 {
             command.uid(65534).gid(65534);
         }
-        match command.output() {
-            Ok(output) => Ran::from(output).failed(2, words),
+        match Process::try_start(&mut command) {
+            Ok(process) => Ran::from(process.end()).failed(2, words),
             // Nobody may not enter the folders above, or can't be had at all.
             Err(error) => println!("not tried: {error}"),
         }
@@ -665,14 +524,11 @@ fn no_permission_is_told() {
 #[test]
 fn a_reader_that_has_enough_is_no_error_worth_words() {
     let bench = Bench::new();
-    let mut child = bench.command("list calibres.bin");
-    let mut child = child
-        .stdout(Stdio::piped())
-        .stderr(Stdio::piped())
-        .spawn()
-        .unwrap();
-    drop(child.stdout.take());
-    let ran = Ran::from(child.wait_with_output().unwrap());
+    let mut command = bench.command("list calibres.bin");
+    command.stdout(Stdio::piped()).stderr(Stdio::piped());
+    let mut process = Process::start(&mut command);
+    process.close_output();
+    let ran = Ran::from(process.end());
     // The listing may be out before the pipe is closed.
     assert!(matches!(ran.status, Some(0 | 2)), "{ran:?}");
     assert_eq!(ran.err, "");

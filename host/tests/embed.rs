@@ -4,9 +4,10 @@ mod common;
 
 use std::fs::{self, File};
 use std::path::{Path, PathBuf};
-use std::process::{Command, Output};
+use std::process::{Command, Output, Stdio};
 
 use common::folder::Folder;
+use common::process;
 
 /// A file of this crate.
 fn file(path: &str) -> PathBuf {
@@ -15,26 +16,23 @@ fn file(path: &str) -> PathBuf {
 
 fn compile(folder: &Folder, level: &str) -> PathBuf {
     let program = folder.join(&format!("embed{level}"));
-    let run = Command::new("gcc")
-        .args(["-Wall", "-Wextra", "-Werror", level, "-Wl,-z,now", "-I"])
+    let mut gcc = Command::new("gcc");
+    gcc.args(["-Wall", "-Wextra", "-Werror", level, "-Wl,-z,now", "-I"])
         .arg(file("../include"))
         .arg(file("examples/embed.c"))
         .arg(env!("SHEET_LINKED_ARCHIVE"))
         .arg("-o")
         .arg(&program)
-        .output()
-        .expect("gcc compiles the C example");
+        .stdin(Stdio::null());
+    let run = process::run(&mut gcc);
     let said = String::from_utf8_lossy(&run.stderr);
     assert!(run.status.success() && said.is_empty(), "{said}");
     program
 }
 
 fn run(program: &Path, stream: &Path, password: &Path) -> Output {
-    Command::new(program)
-        .arg(stream)
-        .stdin(File::open(password).unwrap())
-        .output()
-        .unwrap()
+    let mut command = Command::new(program);
+    process::run(command.arg(stream).stdin(File::open(password).unwrap()))
 }
 
 fn words(bytes: &[u8]) -> &str {

@@ -1,10 +1,13 @@
 //! The four texts that must agree: the Rattle signatures, the C header, the Rust declarations, and
 //! the words of the refusals.
 
+mod common;
+
 use std::fs;
 use std::path::Path;
-use std::process::Command;
+use std::process::{Command, Stdio};
 
+use common::process::run;
 use sheet::Refusal;
 
 /// The kind of a parameter or of an answer, as the machine sees it.
@@ -207,13 +210,14 @@ fn header_rattle_and_rust_declare_the_same() {
 
 #[test]
 fn the_archive_exports_what_is_declared() {
-    let run = Command::new("nm")
-        .args(["--extern-only", "--defined-only", "--format=posix"])
+    // Nm comes with gcc, of binutils.
+    let mut nm = Command::new("nm");
+    nm.args(["--extern-only", "--defined-only", "--format=posix"])
         .arg(env!("SHEET_LINKED_ARCHIVE"))
-        .output();
-    // Binutils may be missing where gcc is not installed.
-    let Ok(run) = run else { return };
-    let symbols = String::from_utf8(run.stdout).unwrap();
+        .stdin(Stdio::null());
+    let ran = run(&mut nm);
+    assert!(ran.status.success());
+    let symbols = String::from_utf8(ran.stdout).unwrap();
     let mut exported: Vec<&str> = symbols
         .lines()
         .filter_map(|line| line.split_once(" T "))
@@ -259,12 +263,10 @@ fn every_refusal_has_words() {
     let all: Vec<u32> = (1..=sheet::REFUSALS).collect();
     assert_eq!(all.len(), 27);
     assert_eq!(numbers, all);
-    let run = Command::new(env!("CARGO_BIN_EXE_sheet"))
-        .arg("refusals")
-        .output()
-        .unwrap();
-    assert!(run.status.success());
-    let table = String::from_utf8(run.stdout).unwrap();
+    let mut refusals = Command::new(env!("CARGO_BIN_EXE_sheet"));
+    let ran = run(refusals.arg("refusals").stdin(Stdio::null()));
+    assert!(ran.status.success());
+    let table = String::from_utf8(ran.stdout).unwrap();
     assert_eq!(table.lines().count(), 27);
     let unknown = Refusal::new(99, [0, 0]);
     for (line, (number, words)) in table.lines().zip(&header) {

@@ -7,12 +7,12 @@ mod common;
 
 use std::collections::HashSet;
 use std::fs::{self, File};
-use std::io::Read;
 use std::os::unix::fs::FileExt;
-use std::process::{Child, Command, Stdio};
+use std::process::{Command, Stdio};
 
 use common::book::{Book, Kind, BOF, FILEPASS, KINDS};
 use common::folder::Folder;
+use common::process::Process;
 use common::pty::Terminal;
 use common::{utf16, xor};
 
@@ -55,7 +55,7 @@ fn runs(book: &Book) -> HashSet<[u8; RUN]> {
 }
 
 /// The parts of a process's memory that it may write to and where a run stands.
-fn found(process: &Child, runs: &HashSet<[u8; RUN]>) -> Vec<String> {
+fn found(process: &Process, runs: &HashSet<[u8; RUN]>) -> Vec<String> {
     let id = process.id();
     let memory = File::open(format!("/proc/{id}/mem")).unwrap();
     let starts: HashSet<u8> = runs.iter().map(|run| run[0]).collect();
@@ -99,14 +99,13 @@ fn command(folder: &Folder, book: &Book) -> Command {
 }
 
 /// Looks for runs once the plain stream has begun to come, and sees that it comes whole.
-fn look_while_it_writes(mut child: Child, book: &Book) -> Vec<String> {
-    let mut pipe = child.stdout.take().unwrap();
-    let mut plain = vec![0; 1];
-    pipe.read_exact(&mut plain).unwrap();
-    let parts = found(&child, &runs(book));
-    pipe.read_to_end(&mut plain).unwrap();
-    assert!(child.wait().unwrap().success());
-    assert!(plain == book.plain);
+#[track_caller]
+fn look_while_it_writes(mut process: Process, book: &Book) -> Vec<String> {
+    let first = process.first_byte();
+    let parts = found(&process, &runs(book));
+    let output = process.end();
+    assert!(output.status.success());
+    assert!([&[first], &output.stdout[..]].concat() == book.plain);
     parts
 }
 
@@ -115,11 +114,8 @@ fn a_password_from_a_file_is_wiped() {
     for kind in KINDS {
         let (folder, book) = (Folder::new(), book(kind));
         let mut command = command(&folder, &book);
-        let child = command
-            .args(["--password-file", "password"])
-            .spawn()
-            .unwrap();
-        assert_eq!(look_while_it_writes(child, &book), [""; 0], "{kind:?}");
+        let process = Process::start(command.args(["--password-file", "password"]));
+        assert_eq!(look_while_it_writes(process, &book), [""; 0], "{kind:?}");
     }
 }
 
@@ -130,10 +126,10 @@ fn a_password_from_the_terminal_is_wiped() {
         let mut terminal = Terminal::open();
         let mut command = command(&folder, &book);
         terminal.attach(&mut command);
-        let child = command.spawn().unwrap();
+        let process = Process::start(&mut command);
         terminal.wait_for("Password for book: ");
         terminal.write(format!("{}\n", book.password).as_bytes());
-        assert_eq!(look_while_it_writes(child, &book), [""; 0], "{kind:?}");
+        assert_eq!(look_while_it_writes(process, &book), [""; 0], "{kind:?}");
     }
 }
 
@@ -142,12 +138,9 @@ fn a_password_from_the_environment_stays_there_and_nowhere_else() {
     for kind in [Kind::Xor, Kind::CryptoApi(128, true)] {
         let (folder, book) = (Folder::new(), book(kind));
         let mut command = command(&folder, &book);
-        let child = command
-            .env("SHEET_PASSWORD", book.password)
-            .spawn()
-            .unwrap();
+        let process = Process::start(command.env("SHEET_PASSWORD", book.password));
         // This shows too that the search finds what is there.
-        let parts = look_while_it_writes(child, &book);
+        let parts = look_while_it_writes(process, &book);
         assert_eq!(parts.len(), 1, "{parts:?}");
         assert!(parts[0].ends_with("[stack]"), "{parts:?}");
     }

@@ -4,9 +4,10 @@ mod common;
 
 use std::fs;
 use std::path::Path;
-use std::process::{Child, Command, Output, Stdio};
+use std::process::{Command, Output, Stdio};
 
 use common::folder::Folder;
+use common::process::Process;
 use common::pty::Terminal;
 
 const SHEET: &str = env!("CARGO_BIN_EXE_sheet");
@@ -27,7 +28,7 @@ extern "C" {
 struct Session {
     folder: Folder,
     terminal: Terminal,
-    shell: Child,
+    shell: Process,
 }
 
 /// The shell has job control, and catches what ends the command, so that it can look at the
@@ -58,7 +59,7 @@ impl Session {
             .stdout(Stdio::piped())
             .stderr(Stdio::piped());
         terminal.attach(&mut command);
-        let shell = command.spawn().unwrap();
+        let shell = Process::start(&mut command);
         Session {
             folder,
             terminal,
@@ -88,7 +89,7 @@ impl Session {
     /// status, what was printed and what was shown.
     #[track_caller]
     fn end(self) -> (String, Output, String) {
-        let output = self.shell.wait_with_output().unwrap();
+        let output = self.shell.end();
         let read = |name: &str| fs::read_to_string(self.folder.join(name)).unwrap();
         assert!(read("before").contains(" echo "));
         assert_eq!(read("before"), read("after"));
@@ -197,7 +198,7 @@ fn a_workbook_is_not_written_to_a_terminal() {
         .stdin(Stdio::null())
         .stdout(terminal.slave.try_clone().unwrap())
         .stderr(Stdio::piped());
-    let output = command.output().unwrap();
+    let output = Process::start(&mut command).end();
     assert_eq!(output.status.code(), Some(2));
     assert!(output
         .stderr

@@ -1,10 +1,12 @@
 //! What the tests share. Each test program uses a part of it.
 #![allow(dead_code)]
 
+pub mod bench;
 pub mod book;
 pub mod digest;
 pub mod folder;
 pub mod guarded;
+pub mod process;
 pub mod pty;
 pub mod rc4;
 pub mod xor;

@@ -9,7 +9,8 @@ use std::os::unix::process::CommandExt;
 use std::process::Command;
 use std::sync::{Arc, Mutex};
 use std::thread::{self, JoinHandle};
-use std::time::{Duration, Instant};
+
+use super::process::wait_until;
 
 const O_RDWR: c_int = 2;
 const O_NOCTTY: c_int = 0o400;
@@ -94,6 +95,7 @@ impl Terminal {
     /// All that was shown. Every command at the terminal has ended by now.
     pub fn end(self) -> String {
         drop(self.slave);
+        wait_until("the terminal's end", || self.reader.is_finished());
         self.reader.join().unwrap();
         let shown = self.shown.lock().unwrap();
         String::from_utf8_lossy(&shown).into_owned()
@@ -102,13 +104,6 @@ impl Terminal {
     /// Waits until something is shown.
     #[track_caller]
     pub fn wait_for(&self, words: &str) {
-        let start = Instant::now();
-        while !self.shown().contains(words) {
-            assert!(
-                start.elapsed() < Duration::from_secs(30),
-                "not shown: {words}"
-            );
-            thread::sleep(Duration::from_millis(5));
-        }
+        wait_until(words, || self.shown().contains(words));
     }
 }
