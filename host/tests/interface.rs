@@ -205,7 +205,7 @@ fn header_rattle_and_rust_declare_the_same() {
     assert_eq!(header_functions(), rattle);
     assert_eq!(rust_functions("src/ffi.rs"), rattle);
     // The test of the stack calls without the wrapper.
-    assert_eq!(rust_functions("tests/stack.rs")[..], rattle[3..]);
+    assert_eq!(rust_functions("tests/machine_stack.rs")[..], rattle[3..]);
 }
 
 #[test]
