@@ -138,14 +138,16 @@ module _ (s : Schedule) (verifier hash : List ℕ) (hv : length verifier ≡ 16)
       none (x ∷ xs) = none xs
 
   -- the two plain parts, by one keystream unbroken
-  module _ (k k′ k″ : Keystream) (zeros zeros′ plain plain′ : List ℕ) (e : k ≡ keyed key) (a : Applies k verifier zeros k′ plain) (b : Applies k′ hash zeros′ k″ plain′) (z : length zeros ≡ 16) (z′ : length zeros′ ≡ 20) where
+  module _ (k k′ k″ : Keystream) (zeros zeros′ plain plain′ : List ℕ) (e : k ≡ keyed key) (a : Applies k verifier zeros k′ plain)
+      (b : Applies k′ hash zeros′ k″ plain′) (z : length zeros ≡ 16) (z′ : length zeros′ ≡ 20) where
     first-part : plain ≡ under key 0 verifier 16
     first-part = ran 0 16 verifier zeros plain k k′ (e ∙ after-none (keyed key)) hv z a
 
     second-part : plain′ ≡ under key 16 hash 20
     second-part = ran 16 20 hash zeros′ plain′ k′ k″ (a .keystream ∙ rw (hv, z, e)) hh z′ b
 
-    pub checked : (n : ℕ) (digest : List ℕ) (r : Bool) → n ≡ digestLen (s .kind) → n ≤ 20 → digest ≡ digestBy (s .kind) plain → r ≡ agree digest plain′ n → r ≡ verified s verifier hash
+    pub checked : (n : ℕ) (digest : List ℕ) (r : Bool) → n ≡ digestLen (s .kind) → n ≤ 20 → digest ≡ digestBy (s .kind) plain → r ≡ agree digest plain′ n
+        → r ≡ verified s verifier hash
     unfolding verified
     checked n digest r en le ed er =
         er

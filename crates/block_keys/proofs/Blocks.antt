@@ -69,7 +69,8 @@ module _ (k k′ : Keystream) (key s d ys : List ℕ) (at end : ℕ) (e : k ≡ 
   one-block =
       let fs : at + (end - at) ≤ length s = omega arith in
       let fd : at + (end - at) ≤ length d = omega arith in
-      let n : min (length (take (end - at) (drop at s))) (length (take (end - at) (drop at d))) ≡ end - at = rw (part-size s at (end - at) fs, part-size d at (end - at) fd) (least (end - at)) in
+      let n : min (length (take (end - at) (drop at s))) (length (take (end - at) (drop at d))) ≡ end - at =
+      rw (part-size s at (end - at) fs, part-size d at (end - at) fd) (least (end - at)) in
       let back : at + (end - at) ≡ end = omega arith in
       rw back at (lent-part (λ (i x : ℕ). bitXor x (keystreamByte key i)) s d ys at (end - at) fs fd (rw (n, e) at (a .bytes)))
     where
@@ -79,11 +80,13 @@ module _ (k k′ : Keystream) (key s d ys : List ℕ) (at end : ℕ) (e : k ≡ 
 -- two blocks side by side
 module _ (j k : Keystream) (key key′ s d ys : List ℕ) (at size : ℕ) (ej : j ≡ keyed key) (ek : k ≡ keyed key′) (hs : at + (size + size) ≤ length s) (hd : at + (size + size) ≤ length d)
     (a : AppliesHalves j k (take (at + (size + size) - at) (drop at s)) (take (at + (size + size) - at) (drop at d)) ys) where
-  pub two-blocks : Written (λ (o : ℕ). pick (ltb (o - at) size) (bitXor (getD s o 0) (keystreamByte key (o - at))) (bitXor (getD s o 0) (keystreamByte key′ (o - at - size)))) at (at + (size + size)) d
+  pub two-blocks : Written (λ (o : ℕ). pick (ltb (o - at) size) (bitXor (getD s o 0) (keystreamByte key (o - at)))
+      (bitXor (getD s o 0) (keystreamByte key′ (o - at - size)))) at (at + (size + size)) d
       (take at d ++ (ys ++ drop (at + (size + size) - at) (drop at d)))
   two-blocks =
       let w : at + (size + size) - at ≡ size + size = omega arith in
-      let h : half (take (size + size) (drop at s)) (take (size + size) (drop at d)) ≡ size = rw (part-size s at (size + size) hs, part-size d at (size + size) hd) (halved size) in
+      let h : half (take (size + size) (drop at s)) (take (size + size) (drop at d)) ≡ size =
+      rw (part-size s at (size + size) hs, part-size d at (size + size) hd) (halved size) in
       rw w
       (lent-part (λ (i x : ℕ). pick (ltb i size) (bitXor x (keystreamByte key i)) (bitXor x (keystreamByte key′ (i - size)))) s d ys at (size + size) hs hd
       (rw (h, ej, ek) at (rw w at (a .bytes))))
@@ -108,11 +111,13 @@ fewer (suc b) s h = let k = fewer b s h in rw (suc-mul b s) (omega arith)
 module _ (size : ℕ) (keyOf : ℕ → List ℕ) (s d d₁ d₂ : List ℕ) (block at : ℕ) (e : at ≡ block * size) where
   -- what two blocks side by side wrote is the stream's
   pub pair-more : Written (decipheredAt size keyOf s) 0 at d d₁
-      → Written (λ (o : ℕ). pick (ltb (o - at) size) (bitXor (getD s o 0) (keystreamByte (keyOf block) (o - at))) (bitXor (getD s o 0) (keystreamByte (keyOf (block + 1)) (o - at - size)))) at (at + (size + size)) d₁ d₂
+      → Written (λ (o : ℕ). pick (ltb (o - at) size) (bitXor (getD s o 0) (keystreamByte (keyOf block) (o - at)))
+      (bitXor (getD s o 0) (keystreamByte (keyOf (block + 1)) (o - at - size)))) at (at + (size + size)) d₁ d₂
       → Written (decipheredAt size keyOf s) 0 (at + (size + size)) d d₂
   pair-more v w =
       written-join (decipheredAt size keyOf s) 0 at (at + (size + size)) d d₁ d₂ (omega arith) (omega arith) v
-      (written-by (λ (o : ℕ). pick (ltb (o - at) size) (bitXor (getD s o 0) (keystreamByte (keyOf block) (o - at))) (bitXor (getD s o 0) (keystreamByte (keyOf (block + 1)) (o - at - size)))) (decipheredAt size keyOf s) at (at + (size + size)) d₁ d₂
+      (written-by (λ (o : ℕ). pick (ltb (o - at) size) (bitXor (getD s o 0) (keystreamByte (keyOf block) (o - at)))
+      (bitXor (getD s o 0) (keystreamByte (keyOf (block + 1)) (o - at - size)))) (decipheredAt size keyOf s) at (at + (size + size)) d₁ d₂
       (λ o h k.
       either size (o - at)
       (λ m. left _ _ (le-ltb (o - at) size m) ∙ second o (omega arith) (omega arith))
@@ -138,7 +143,8 @@ module _ (size : ℕ) (keyOf : ℕ → List ℕ) (s d : List ℕ) where
   pub no-blocks : size ≡ 0 → Decrypts size keyOf s d d
   no-blocks e = record { bytes = stop _ (eq-eqb size 0 e) }
 
-  pub all-blocks : (size ≡ 0 → ⊥) → (n b : ℕ) (d₁ d₂ : List ℕ) → n ≡ min (length s) (length d) → b * size ≤ n → Written (decipheredAt size keyOf s) 0 (b * size) d d₁ → Written (decipheredAt size keyOf s) (b * size) n d₁ d₂
+  pub all-blocks : (size ≡ 0 → ⊥) → (n b : ℕ) (d₁ d₂ : List ℕ) → n ≡ min (length s) (length d) → b * size ≤ n
+      → Written (decipheredAt size keyOf s) 0 (b * size) d d₁ → Written (decipheredAt size keyOf s) (b * size) n d₁ d₂
       → Decrypts size keyOf s d d₂
   all-blocks z n b d₁ d₂ e h v w =
       let l : n ≤ length d = omega arith in

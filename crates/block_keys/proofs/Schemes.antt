@@ -109,7 +109,8 @@ module _ (st : List ℕ) where
     is-api : (t : Bool) → (within 2 4 major && eqb minor 2) ≡ t → isCryptoApi st ≡ t
     is-api t e = rw (← field-value st 0 major a, ← field-value st 2 minor b) e
 
-    pub other-version : (eqb major 1 && eqb minor 1) ≡ false → (within 2 4 major && eqb minor 2) ≡ false → Refused (UnsupportedEncryptionVersion major minor) ≡ schemeOf st
+    pub other-version : (eqb major 1 && eqb minor 1) ≡ false → (within 2 4 major && eqb minor 2) ≡ false
+        → Refused (UnsupportedEncryptionVersion major minor) ≡ schemeOf st
     unfolding asked version
     other-version e g =
         rw (field-value st 0 major a, field-value st 2 minor b)
@@ -124,11 +125,22 @@ module _ (st : List ℕ) where
     version-97 e g =
         let x = is-97 true e in
         let y = is-api false g in
-        sym (rw (taken {t = isOffice97 st} office97Lock (cryptoApiLock st) x, asked-on (version st) (only (isOffice97 st) (office97 st) ++ only (isCryptoApi st) (cryptoApi st)) (accepted (rw (x))), only-yes (office97 st) x, only-no (cryptoApi st) y, append-nil (office97 st)))
+        sym (rw (
+          taken {t = isOffice97 st} office97Lock (cryptoApiLock st) x,
+          asked-on (version st) (only (isOffice97 st) (office97 st) ++ only (isCryptoApi st) (cryptoApi st)) (accepted (rw (x))),
+          only-yes (office97 st) x,
+          only-no (cryptoApi st) y,
+          append-nil (office97 st),
+        ))
 
     pub version-api : (eqb major 1 && eqb minor 1) ≡ false → (within 2 4 major && eqb minor 2) ≡ true → unless (cryptoApiLock st) (asked (cryptoApi st)) ≡ schemeOf st
     unfolding schemeOf rc4 lockOf
     version-api e g =
         let x = is-97 false e in
         let y = is-api true g in
-        sym (rw (left {t = isOffice97 st} office97Lock (cryptoApiLock st) x, asked-on (version st) (only (isOffice97 st) (office97 st) ++ only (isCryptoApi st) (cryptoApi st)) (accepted (rw (x, y))), only-no (office97 st) x, only-yes (cryptoApi st) y))
+        sym (rw (
+          left {t = isOffice97 st} office97Lock (cryptoApiLock st) x,
+          asked-on (version st) (only (isOffice97 st) (office97 st) ++ only (isCryptoApi st) (cryptoApi st)) (accepted (rw (x, y))),
+          only-no (office97 st) x,
+          only-yes (cryptoApi st) y,
+        ))

@@ -77,7 +77,8 @@ module _ (f : Refusal → Bool) where
   where-asked false qs e = refl
 
   -- the tables of a FILEPASS body, from its parts
-  pub of-lock : ((b : List ℕ) → every (encryptionType b) ≡ true) → ((s : List ℕ) → every (version s) ≡ true) → ((s : List ℕ) → every (office97 s) ≡ true) → ((s : List ℕ) → every (cryptoApi s) ≡ true)
+  pub of-lock : ((b : List ℕ) → every (encryptionType b) ≡ true) → ((s : List ℕ) → every (version s) ≡ true) → ((s : List ℕ) → every (office97 s) ≡ true)
+      → ((s : List ℕ) → every (cryptoApi s) ≡ true)
       → (body : List ℕ) → every (lock body) ≡ true
   unfolding lock rc4
   of-lock t v o c body =
@@ -96,7 +97,8 @@ module _ (f : Refusal → Bool) where
   given-passes [] r e g = cc
   given-passes (q ∷ qs) r e g = go (q .yes) (f (q .no)) refl e g (given-passes qs r)
     where
-      go : (t u : Bool) → f (q .no) ≡ u → (u && every qs) ≡ true → pick t (asked qs) (some (q .no)) ≡ some r → (every qs ≡ true → asked qs ≡ some r → f r ≡ true) → f r ≡ true
+      go : (t u : Bool) → f (q .no) ≡ u → (u && every qs) ≡ true → pick t (asked qs) (some (q .no)) ≡ some r → (every qs ≡ true → asked qs ≡ some r → f r ≡ true)
+          → f r ≡ true
       go true true k e g h = h e g
       go false true k e g h = let z : q .no ≡ r = cc in rw (← z) k
       go t false k e g h = cc

@@ -71,7 +71,8 @@ module _ (s : List ℕ) (n : ℕ) where
     not-encrypted g = ap (surveyedOf told) (past _ e (refused _ (is-nothing (filepass (walk s .records)) g)))
 
     module _ (at len : ℕ) (g : foundOf (filepass (walk s .records)) ≡ found.At at len) where
-      pub out-of-order : (id : ℕ) → otherOf (otherId (walk s .records)) ≡ other.Id id → surveyed.Refused (FilepassOutOfOrder id) ≡ surveyedOf told (asked (drop 1 (book s)))
+      pub out-of-order : (id : ℕ) → otherOf (otherId (walk s .records)) ≡ other.Id id
+          → surveyed.Refused (FilepassOutOfOrder id) ≡ surveyedOf told (asked (drop 1 (book s)))
       unfolding asked book
       out-of-order id h =
           ap (λ (i : ℕ). surveyed.Refused (FilepassOutOfOrder i)) (other-id (otherId (walk s .records)) id h)
@@ -91,7 +92,8 @@ module _ (s : List ℕ) where
   unreadable at e =
       ap (λ (i : ℕ). surveyed.Refused (BiffRecordUnreadable i)) (sym (ap faultAt e)) ∙ ap (surveyedOf (bookOf s)) (refused _ (ap clean e))
 
-  pub walked : walk s .ends ≡ end.Clean → surveyedOf (bookBy (length (walk s .records)) (filepass (walk s .records))) (asked (drop 1 (book s))) ≡ surveyedOf (bookOf s) (asked (book s))
+  pub walked : walk s .ends ≡ end.Clean
+      → surveyedOf (bookBy (length (walk s .records)) (filepass (walk s .records))) (asked (drop 1 (book s))) ≡ surveyedOf (bookOf s) (asked (book s))
   unfolding asked book bookOf
   walked e = ap (surveyedOf (bookOf s)) (past _ (ap clean e) refl)
 
@@ -122,7 +124,8 @@ module _ (body : List ℕ) where
         let y : typeOf body ≡ 0 = sym type-is ∙ z in
         sym
         (ap (schemeOf (schemeBy body))
-        (asked-on (encryptionType body) (only (eqb (typeOf body) 1) (rc4 (structureOf body))) (past _ (le-leb _ _ there) (past _ (rw y (le-leb 6 (length body) h)) (past _ (rw y refl) refl)))
+        (asked-on (encryptionType body) (only (eqb (typeOf body) 1) (rc4 (structureOf body)))
+        (past _ (le-leb _ _ there) (past _ (rw y (le-leb 6 (length body) h)) (past _ (rw y refl) refl)))
         ∙ ap asked (only-no (rc4 (structureOf body)) (rw y refl)))
         ∙ taken scheme.Xor (scheme.Rc4 (lockOf (structureOf body))) (rw y refl))
 
@@ -151,10 +154,12 @@ module _ (body : List ℕ) where
       by-locked l none k g = cc
       by-locked l (some q) k g = cc
 
-      pub rc4-refused : (r : Refusal) → unless (lockOf (structureOf body)) (asked (rc4 (structureOf body))) ≡ rc4Scheme.Refused r → scheme.Refused r ≡ schemeOf (schemeBy body) (asked (lock body))
+      pub rc4-refused : (r : Refusal) → unless (lockOf (structureOf body)) (asked (rc4 (structureOf body))) ≡ rc4Scheme.Refused r
+          → scheme.Refused r ≡ schemeOf (schemeBy body) (asked (lock body))
       rc4-refused r g = by-refused (lockOf (structureOf body)) (asked (rc4 (structureOf body))) r (schemeBy body) g ∙ ap (schemeOf (schemeBy body)) (sym rc4-asked)
 
-      pub rc4-locked : (k : Rc4Lock) → unless (lockOf (structureOf body)) (asked (rc4 (structureOf body))) ≡ rc4Scheme.Locked k → scheme.Rc4 k ≡ schemeOf (schemeBy body) (asked (lock body))
+      pub rc4-locked : (k : Rc4Lock) → unless (lockOf (structureOf body)) (asked (rc4 (structureOf body))) ≡ rc4Scheme.Locked k
+          → scheme.Rc4 k ≡ schemeOf (schemeBy body) (asked (lock body))
       unfolding schemeBy
       rc4-locked k g =
           let z : typeOf body ≡ 1 = sym type-is ∙ y in

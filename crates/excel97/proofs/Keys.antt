@@ -62,7 +62,8 @@ module _ (body : List ℕ) where
   no-key none h e = (refl, refl)
   no-key (some bs) h e = let g : NoKey ≡ Key (xorKey bs) = e ∙ key-of bs (h bs refl) in (cc, cc)
 
-  pub with-key : (o : Option (List ℕ)) → Sized o → (k v a b : ℕ) (array : List ℕ) → Key k ≡ keyOf (spelled o) → v ≡ passwordVerifier (spelled o) → array ≡ xorArray (spelled o) k
+  pub with-key : (o : Option (List ℕ)) → Sized o → (k v a b : ℕ) (array : List ℕ) → Key k ≡ keyOf (spelled o) → v ≡ passwordVerifier (spelled o)
+      → array ≡ xorArray (spelled o) k
       → a ≡ le16 body 2 → b ≡ le16 body 4 → ((eqb k a && eqb v b) ≡ xorMatches body o) × (array ≡ arrayOf o)
   with-key none h k v a b array e f g p q = let x : Key k ≡ NoKey = e ∙ none-of in (cc, cc)
   with-key (some bs) h k v a b array e f g p q =

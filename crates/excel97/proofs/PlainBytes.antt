@@ -34,7 +34,8 @@ module _ (s : List ℕ) where
   unfolding recordAt
   nowhere rs e r o g = let h = ap (λ (ts : List BiffRecord). recordAt ts o) e in let z : _≡_ {A = ℕ} 0 1 = cc in omega arith
 
-  in-first : (t r : BiffRecord) (rs : List BiffRecord) (o : ℕ) → t .at + 4 + t .len ≤ length s → (recordAt rs o ≡ some r → o < length s) → recordAt (t ∷ rs) o ≡ some r → o < length s
+  in-first : (t r : BiffRecord) (rs : List BiffRecord) (o : ℕ) → t .at + 4 + t .len ≤ length s → (recordAt rs o ≡ some r → o < length s)
+      → recordAt (t ∷ rs) o ≡ some r → o < length s
   unfolding recordAt pick
   in-first t r rs o h f g = go (leb (t .at) o) (ltb o (t .at + 4 + t .len)) refl g
     where
@@ -97,7 +98,8 @@ module _ (s p : List ℕ) where
     kept-byte : o < r .at + 4 + clearLen (r .id) (r .len) → getD (plain s p) o 0 ≡ getD s o 0
     kept-byte h = record-byte ∙ own-byte (plainByte (filepassBody s) p) r o (getD s o 0) h
 
-    rc4-byte : eqb (typeOf (filepassBody s)) 0 ≡ false → r .at + 4 + clearLen (r .id) (r .len) ≤ o → getD (plain s p) o 0 ≡ rc4Byte (structureOf (filepassBody s)) p o (getD s o 0)
+    rc4-byte : eqb (typeOf (filepassBody s)) 0 ≡ false → r .at + 4 + clearLen (r .id) (r .len) ≤ o
+        → getD (plain s p) o 0 ≡ rc4Byte (structureOf (filepassBody s)) p o (getD s o 0)
     unfolding plainByte
     rc4-byte h k =
         record-byte
@@ -110,7 +112,8 @@ module _ (s p : List ℕ) where
   not-xor f = go (eqb (typeOf (filepassBody s)) 0) refl
     where
       go : (t : Bool) → eqb (typeOf (filepassBody s)) 0 ≡ t → t ≡ false
-      go true e = absurd (f (ap (λ (x : Report). x .lock) (taken (xorReport (length (walk s .records))) (rc4Report (length (walk s .records)) (structureOf (filepassBody s))) e)))
+      go true e = absurd (f (ap (λ (x : Report). x .lock)
+          (taken (xorReport (length (walk s .records))) (rc4Report (length (walk s .records)) (structureOf (filepassBody s))) e)))
       go false e = refl
 
   module _ (output output′ : List ℕ) (x : Report) (clean : walk s .ends ≡ end.Clean) (told : x ≡ report s) (written : output′ ≡ plain s p ++ drop (length s) output) where

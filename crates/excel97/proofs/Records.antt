@@ -36,7 +36,8 @@ end-past s at e = either (length s) at (λ h. h) (λ h. by-id h (le16At s at) re
     by-len : at < length s → (i : ℕ) → two.Value i ≡ le16At s at → (w : Field16) → w ≡ le16At s (at + 2) → length s ≤ at
     by-len h i g two.Short k = never (step.Fault at) (step-no-len s at h i g k) (λ q. cc)
     by-len h i g (two.Value l) k =
-        either (at + 4 + l) (length s) (λ m. never (step.Record i l) (step-record s at h i l g k m) (λ q. cc)) (λ m. never (step.Fault at) (step-past s at h i l g k m) (λ q. cc))
+        either (at + 4 + l) (length s) (λ m. never (step.Record i l) (step-record s at h i l g k m) (λ q. cc))
+        (λ m. never (step.Fault at) (step-past s at h i l g k m) (λ q. cc))
 
     by-id : at < length s → (w : Field16) → w ≡ le16At s at → length s ≤ at
     by-id h two.Short g = never (step.Fault at) (step-no-id s at h g) (λ q. cc)

@@ -130,7 +130,8 @@ module _ (s : List ℕ) where
           (omega arith))
 
     abbrev Same : ℕ → Type 0
-    Same at = Reached s at → Sits (filepass (walk s .records)) at → (boundsOf (walkAt d at .records) ≡ boundsOf (walkAt s at .records)) × (walkAt d at .ends ≡ walkAt s at .ends)
+    Same at = Reached s at → Sits (filepass (walk s .records)) at
+        → (boundsOf (walkAt d at .records) ≡ boundsOf (walkAt s at .records)) × (walkAt d at .ends ≡ walkAt s at .ends)
 
     same-from : (at : ℕ) → at ≤ length s → Same at
     same-from =

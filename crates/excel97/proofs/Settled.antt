@@ -138,14 +138,16 @@ module _ (body : List ℕ) where
       no : scheme.Rc4 (lockOf (structureOf body)) ≡ scheme.Xor → typeOf body ≡ 0
       no e = let z : _≡_ {A = ℕ} 0 1 = cc in omega arith
 
-  pub rc4-found : (l : Rc4Lock) → schemeOf (schemeBy body) (asked (lock body)) ≡ scheme.Rc4 l → (none ≡ asked (lock body)) × (typeOf body ≡ 1) × (l ≡ lockOf (structureOf body))
+  pub rc4-found : (l : Rc4Lock) → schemeOf (schemeBy body) (asked (lock body)) ≡ scheme.Rc4 l
+      → (none ≡ asked (lock body)) × (typeOf body ≡ 1) × (l ≡ lockOf (structureOf body))
   unfolding schemeBy
   rc4-found l e =
       let w = by-scheme (schemeBy body) (asked (lock body)) (scheme.Rc4 l) e (not-refused-rc4 l) in
       let h = at-most-one (w .0) in
       same-or (typeOf body) 0
       (λ z. let g : scheme.Xor ≡ scheme.Rc4 l = sym (taken scheme.Xor (scheme.Rc4 (lockOf (structureOf body))) (eq-eqb (typeOf body) 0 z)) ∙ w .1 in (w .0, cc, cc))
-      (λ z. let g : scheme.Rc4 (lockOf (structureOf body)) ≡ scheme.Rc4 l = sym (left scheme.Xor (scheme.Rc4 (lockOf (structureOf body))) (ne-eqb (typeOf body) 0 z)) ∙ w .1 in (w .0, one (typeOf body) z h, cc))
+      (λ z. let g : scheme.Rc4 (lockOf (structureOf body)) ≡ scheme.Rc4 l =
+      sym (left scheme.Xor (scheme.Rc4 (lockOf (structureOf body))) (ne-eqb (typeOf body) 0 z)) ∙ w .1 in (w .0, one (typeOf body) z h, cc))
     where
       one : (t : ℕ) → (t ≡ 0 → ⊥) → t ≤ 1 → t ≡ 1
       one t z h = omega arith
@@ -204,7 +206,8 @@ module _ (s p w o : List ℕ) where
   module _ (b : none ≡ asked (book s)) where
     pub refused-lock : (r : Refusal) → some r ≡ asked (lock (filepassBody s)) → Settles s p w o (Refused r) w o
     refused-lock r e =
-        let g = settled-by (laterRefusal s p) r (asked-stop (lock (filepassBody s)) (ask (passes (filepassBody s) p) WrongPassword ∷ []) r e ∙ sym (asked-on (book s) (lock (filepassBody s) ++ (ask (passes (filepassBody s) p) WrongPassword ∷ [])) b)) in
+        let g = settled-by (laterRefusal s p) r (asked-stop (lock (filepassBody s)) (ask (passes (filepassBody s) p) WrongPassword ∷ []) r e
+        ∙ sym (asked-on (book s) (lock (filepassBody s) ++ (ask (passes (filepassBody s) p) WrongPassword ∷ [])) b)) in
         record { answered = g .0; same = refl; kept = refl; output-left = g .1 }
 
     -- tried: the check alone is left
@@ -250,12 +253,15 @@ module _ (s p w o : List ℕ) where
     by-outcome none f = refl
     by-outcome (some r) f = left w (wiped w) (lt-leb (number r) 5 (f r refl))
 
-    pub settled-all : (a : Answer) (w₁ w₂ o₁ : List ℕ) → Settles s p w o a w₁ o₁ → 2064 ≤ length w₁ → w₂ ≡ pick (leb 2064 (length w₁)) (replicate 2064 0 ++ drop 2064 w₁) w₁ → Opens s p w o a w₂ o₁
+    pub settled-all : (a : Answer) (w₁ w₂ o₁ : List ℕ) → Settles s p w o a w₁ o₁ → 2064 ≤ length w₁
+        → w₂ ≡ pick (leb 2064 (length w₁)) (replicate 2064 0 ++ drop 2064 w₁) w₁ → Opens s p w o a w₂ o₁
     unfolding outcome
     settled-all a w₁ w₂ o₁ t h g =
         record {
           answered = t .answered ∙ rw (← all-later) refl;
-          scratch-left = g ∙ taken (replicate 2064 0 ++ drop 2064 w₁) w₁ (le-leb 2064 (length w₁) h) ∙ ap (λ (l : List ℕ). replicate 2064 0 ++ l) same-rest ∙ sym (ap (λ (d : Option Refusal). outcomeBy s p w o d .scratch) all-later ∙ by-outcome (laterRefusal s p) (λ r q. later-number s (passes (filepassBody s) p) r q));
+          scratch-left = g ∙ taken (replicate 2064 0 ++ drop 2064 w₁) w₁ (le-leb 2064 (length w₁) h) ∙ ap (λ (l : List ℕ). replicate 2064 0 ++ l) same-rest
+              ∙ sym (ap (λ (d : Option Refusal). outcomeBy s p w o d .scratch) all-later ∙ by-outcome (laterRefusal s p)
+              (λ r q. later-number s (passes (filepassBody s) p) r q));
           output-left = t .output-left ∙ rw (← all-later) refl;
         }
       where

@@ -32,10 +32,12 @@ module _ (s : List ℕ) (f : BiffRecord → ℕ → ℕ → ℕ) (at id len : �
   here o h k = ap (λ (r : Option BiffRecord). inRecord f r o (getD s o 0)) (record-here s at id len w e o h k)
 
   -- a record that is written whole
-  pub through-record : Written (λ (o : ℕ). inRecord f (some (record { at = at; id = id; len = len })) o (getD s o 0)) at (at + 4 + len) d₁ d₂ → Written (throughAt s f) 0 (at + 4 + len) d d₂
+  pub through-record : Written (λ (o : ℕ). inRecord f (some (record { at = at; id = id; len = len })) o (getD s o 0)) at (at + 4 + len) d₁ d₂
+      → Written (throughAt s f) 0 (at + 4 + len) d d₂
   through-record v =
       written-join (throughAt s f) 0 at (at + 4 + len) d d₁ d₂ (omega arith) (omega arith) before
-      (written-by (λ (o : ℕ). inRecord f (some (record { at = at; id = id; len = len })) o (getD s o 0)) (throughAt s f) at (at + 4 + len) d₁ d₂ (λ o h k. sym (here o h k)) v)
+      (written-by (λ (o : ℕ). inRecord f (some (record { at = at; id = id; len = len })) o (getD s o 0)) (throughAt s f) at (at + 4 + len) d₁ d₂
+      (λ o h k. sym (here o h k)) v)
 
 -- a record of which only header and clear part are written, over what the output held
 module _ (s : List ℕ) (at id len : ℕ) (w : Reached s at) (e : stepAt s at ≡ step.Record id len) (d d₁ d₂ : List ℕ) (n : ℕ) (en : n ≡ at + 4 + clearLen id len) where
@@ -84,8 +86,10 @@ module _ (s array d d₁ ys : List ℕ) (at id len : ℕ) (clear start stop : �
 
   behind : Written target start (start + (stop - start)) d₁ (take start d₁ ++ (ys ++ drop (stop - start) (drop start d₁)))
   behind =
-      let n : min (length (take (stop - start) (drop start s))) (length (take (stop - start) (drop start d₁))) ≡ stop - start = rw (part-size s start (stop - start) fits-s, part-size d₁ start (stop - start) fits-d) (same (stop - start)) in
-      written-by (λ (o : ℕ). deciphered array (stop + clear) (o - start) (getD s o 0)) target start (start + (stop - start)) d₁ (take start d₁ ++ (ys ++ drop (stop - start) (drop start d₁))) (λ o h k. byte-is o h)
+      let n : min (length (take (stop - start) (drop start s))) (length (take (stop - start) (drop start d₁))) ≡ stop - start =
+      rw (part-size s start (stop - start) fits-s, part-size d₁ start (stop - start) fits-d) (same (stop - start)) in
+      written-by (λ (o : ℕ). deciphered array (stop + clear) (o - start) (getD s o 0)) target start (start + (stop - start)) d₁
+      (take start d₁ ++ (ys ++ drop (stop - start) (drop start d₁))) (λ o h k. byte-is o h)
       (lent-part (λ (i x : ℕ). deciphered array (stop + clear) i x) s d₁ ys start (stop - start) fits-s fits-d (rw n at (part .bytes)))
     where
       same : (n : ℕ) → min n n ≡ n

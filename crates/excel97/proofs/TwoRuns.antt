@@ -29,7 +29,8 @@ module _ (stream p scratch output : List ℕ) (a : Answer) where
   by-check true e g = record { fails = λ r n h. cc; failed = λ h. (WrongPassword, refl, cc); succeeds = λ told h. e; succeeded = λ h. (report stream, g) }
   by-check false e g = record { fails = λ r n h. e; failed = λ h. (WrongPassword, refl, g); succeeds = λ told h. cc; succeeded = λ h. (report stream, cc) }
 
-  by-questions : (c : Option Refusal) → ((r : Refusal) → c ≡ some r → number r ≤ 26) → a ≡ outcomeBy stream p scratch output (decided c (passes (filepassBody stream) p)) .answer
+  by-questions : (c : Option Refusal) → ((r : Refusal) → c ≡ some r → number r ≤ 26)
+      → a ≡ outcomeBy stream p scratch output (decided c (passes (filepassBody stream) p)) .answer
       → ((r : Refusal) → a ≡ Refused r → number r ≡ 27) → Decided stream p a
   by-questions none small g f = by-check (passes (filepassBody stream) p) refl g
   by-questions (some r) small g f = let e = f r g in let h = small r refl in absurd (no e h)

@@ -45,7 +45,8 @@ listed : (f : ℕ → ℕ → ℕ) (s : List ℕ) → tabulate (λ (o : ℕ). f 
 listed f s =
     let g : ℕ → ℕ = λ o. f o (getD s o 0) in
     ext-getD 0 (tabulate g (length s)) (mapAt f 0 s) (length-tabulate g (length s) ∙ sym (length-mapAt f 0 s))
-    (λ i h. let k : i < length s = rw (length-tabulate g (length s)) at h in getD-tabulate g (length s) i 0 k ∙ sym (getD-mapAt f 0 s i 0 k ∙ ap (λ (n : ℕ). f n (getD s i 0)) (zero-add i)))
+    (λ i h. let k : i < length s = rw (length-tabulate g (length s)) at h in getD-tabulate g (length s) i 0 k
+    ∙ sym (getD-mapAt f 0 s i 0 k ∙ ap (λ (n : ℕ). f n (getD s i 0)) (zero-add i)))
 
 -- under RC4: the whole stream deciphered, then headers and clear parts put back
 module _ (s d d₁ d₂ : List ℕ) (keyOf : ℕ → List ℕ) (room : length s ≤ length d) (a : Decrypts 1024 keyOf s d d₁) (b : Written (throughAt s (λ (r : BiffRecord) (o x : ℕ). getD d₁ o 0)) 0 (length s) d₁ d₂) where
@@ -64,7 +65,8 @@ module _ (s d d₁ d₂ : List ℕ) (keyOf : ℕ → List ℕ) (room : length s 
   past-first o h =
       let e : o ≡ length s + (o - length s) = omega arith in
       ap (λ (l : List ℕ). getD l o 0) first
-      ∙ ap (λ (n : ℕ). getD (tabulate (decipheredAt 1024 keyOf s) (length s) ++ drop (length s) d) n 0) (e ∙ ap (λ (n : ℕ). n + (o - length s)) (sym (length-tabulate (decipheredAt 1024 keyOf s) (length s))))
+      ∙ ap (λ (n : ℕ). getD (tabulate (decipheredAt 1024 keyOf s) (length s) ++ drop (length s) d) n 0)
+      (e ∙ ap (λ (n : ℕ). n + (o - length s)) (sym (length-tabulate (decipheredAt 1024 keyOf s) (length s))))
       ∙ getD-append-add (tabulate (decipheredAt 1024 keyOf s) (length s)) (drop (length s) d) (o - length s) 0
       ∙ getD-drop (length s) d (o - length s) 0
       ∙ ap (λ (n : ℕ). getD d n 0) (sym e)
@@ -79,7 +81,8 @@ module _ (s d d₁ d₂ : List ℕ) (keyOf : ℕ → List ℕ) (room : length s 
         before = λ o h. b .before o h ∙ absurd (never o h);
         inside = λ o h k.
             b .inside o h k
-            ∙ same-in-record (λ (r : BiffRecord) (q x : ℕ). getD d₁ q 0) (λ (r : BiffRecord) (q x : ℕ). bitXor x (keystreamAt 1024 keyOf q)) (recordAt (walk s .records) o) o (getD s o 0) (λ r. at-first o k);
+            ∙ same-in-record (λ (r : BiffRecord) (q x : ℕ). getD d₁ q 0) (λ (r : BiffRecord) (q x : ℕ). bitXor x (keystreamAt 1024 keyOf q))
+            (recordAt (walk s .records) o) o (getD s o 0) (λ r. at-first o k);
         after = λ o h. b .after o h ∙ past-first o h;
       }
     where
@@ -107,7 +110,8 @@ module _ (s : List ℕ) (at len : ℕ) (e : foundOf (filepass (walk s .records))
   body-found = by-body (filepass (walk s .records)) e
 
   -- the plain stream, from the stream that went through the lock and the FILEPASS that was blanked
-  module _ (p d d₁ d₂ : List ℕ) (f : BiffRecord → ℕ → ℕ → ℕ) (inside : at + 4 + len ≤ length s) (room : length s ≤ length d) (w : Written (throughAt s f) 0 (length s) d d₁)
+  module _ (p d d₁ d₂ : List ℕ) (f : BiffRecord → ℕ → ℕ → ℕ) (inside : at + 4 + len ≤ length s) (room : length s ≤ length d)
+      (w : Written (throughAt s f) 0 (length s) d d₁)
       (g : (r : BiffRecord) (o x : ℕ) → f r o x ≡ plainByte (filepassBody s) p r o x) (b : Blanks at len d₁ d₂) where
     through : (o : ℕ) → throughAt s f o ≡ throughAt s (plainByte (filepassBody s) p) o
     through o = same-in-record f (plainByte (filepassBody s) p) (recordAt (walk s .records) o) o (getD s o 0) (λ r. g r o (getD s o 0))

@@ -98,10 +98,12 @@ module _ {S : Type 0} (f : S → List ℕ → S) (order : ℕ → List ℕ) (wid
       let e : n - k ≡ q * 64 = omega arith in
       let rest = drop (q * 64) m ++ ending n size in
       let whole : length (take (q * 64) m) ≡ q * 64 = length-take-le (q * 64) m (omega arith) in
-      let parts : m ++ ending n size ≡ take (q * 64) m ++ rest = ap (λ (s : List ℕ). s ++ ending n size) (sym (take-append-drop (q * 64) m)) ∙ append-assoc (take (q * 64) m) (drop (q * 64) m) (ending n size) in
+      let parts : m ++ ending n size ≡ take (q * 64) m ++ rest =
+      ap (λ (s : List ℕ). s ++ ending n size) (sym (take-append-drop (q * 64) m)) ∙ append-assoc (take (q * 64) m) (drop (q * 64) m) (ending n size) in
       let short : length (drop (q * 64) m) ≡ k = length-drop (q * 64) m ∙ left n in
       let w : length rest ≡ k + 1 + zeros n + 8 = length-append (drop (q * 64) m) (ending n size) ∙ long (drop (q * 64) m) k (zeros n) size short (wide (8 * total)) in
-      let all : length (m ++ ending n size) ≡ q * 64 + (k + 1 + zeros n + 8) = ap length parts ∙ length-append (take (q * 64) m) rest ∙ both (length (take (q * 64) m)) (length rest) (q * 64) (k + 1 + zeros n + 8) whole w in
+      let all : length (m ++ ending n size) ≡ q * 64 + (k + 1 + zeros n + 8) =
+      ap length parts ∙ length-append (take (q * 64) m) rest ∙ both (length (take (q * 64) m)) (length rest) (q * 64) (k + 1 + zeros n + 8) whole w in
       let count : (q * 64 + (k + 1 + zeros n + 8)) / 64 ≡ q + (k + 1 + zeros n + 8) / 64 = omega arith in
       let more : (k + 1 + zeros n + 8) / 64 * 64 ≤ length rest = rw w (omega arith) in
       rw (
@@ -137,7 +139,8 @@ module _ {S : Type 0} (f : S → List ℕ → S) (order : ℕ → List ℕ) (wid
       let l : total ≡ n * 64 + length m = length-append a m ∙ ap (λ (k : ℕ). k + length m) e in
       let z : total % 64 ≡ length m % 64 = omega arith in
       let same : ending total size ≡ ending (length m) size = ap (λ (k : ℕ). 128 ∷ (replicate ((119 - k) % 64) 0 ++ size)) z in
-      let parts : (a ++ m) ++ ending total size ≡ a ++ (m ++ ending (length m) size) = ap (λ (s : List ℕ). (a ++ m) ++ s) same ∙ append-assoc a m (ending (length m) size) in
+      let parts : (a ++ m) ++ ending total size ≡ a ++ (m ++ ending (length m) size) =
+      ap (λ (s : List ℕ). (a ++ m) ++ s) same ∙ append-assoc a m (ending (length m) size) in
       let padded = m ++ ending (length m) size in
       let count : length (a ++ padded) / 64 ≡ n + length padded / 64 = rw (length-append a padded, e) (added n (length padded)) in
       rw (parts, count) (blocks-join f h a padded n (length padded / 64) e)
@@ -146,7 +149,8 @@ module _ {S : Type 0} (f : S → List ℕ → S) (order : ℕ → List ℕ) (wid
       added n k = omega arith
 
   -- what the code does behind the whole blocks: one block, or two where the first has no room for the length
-  module _ (m : List ℕ) (total : ℕ) (v v′ : S) (t : Tail) (e : v ≡ blocks f h m (length m / 64)) (g : t ≡ tailOf m (order (8 * total))) (p : v′ ≡ f v (take 64 (t .bytes))) where
+  module _ (m : List ℕ) (total : ℕ) (v v′ : S) (t : Tail) (e : v ≡ blocks f h m (length m / 64)) (g : t ≡ tailOf m (order (8 * total)))
+      (p : v′ ≡ f v (take 64 (t .bytes))) where
     by-len : (n : ℕ) → t .len ≡ n * 64 → blocks f v (t .bytes) n ≡ hashEnd f order h m total
     by-len n q =
         let c : n * 64 / 64 ≡ n = omega arith in
@@ -156,7 +160,8 @@ module _ {S : Type 0} (f : S → List ℕ → S) (order : ℕ → List ℕ) (wid
     end-one q = p ∙ sym (blocks-one f v (t .bytes)) ∙ by-len 1 q
 
     pub end-two : (v″ : S) → (t .len ≡ 64 → ⊥) → v″ ≡ f v′ (take 64 (drop 64 (t .bytes))) → v″ ≡ hashEnd f order h m total
-    end-two v″ q r = r ∙ ap (λ (u : S). f u (take 64 (drop 64 (t .bytes)))) p ∙ sym (blocks-two f v (t .bytes)) ∙ by-len 2 (other (t .len) (ap (λ (u : Tail). u .len) g ∙ tail-len m (order (8 * total))) q)
+    end-two v″ q r = r ∙ ap (λ (u : S). f u (take 64 (drop 64 (t .bytes)))) p ∙ sym (blocks-two f v (t .bytes))
+        ∙ by-len 2 (other (t .len) (ap (λ (u : Tail). u .len) g ∙ tail-len m (order (8 * total))) q)
       where
         other : (n : ℕ) → n ≡ length m % 64 + 1 + (119 - length m % 64) % 64 + 8 → (n ≡ 64 → ⊥) → n ≡ 2 * 64
         other n e q = omega arith

@@ -37,7 +37,8 @@ module _ (rest size : List ℕ) (k z x : ℕ) (hr : length rest ≡ k) (hs : len
   unfolding front
   laid =
       let t : take 8 size ≡ size = take-all 8 size (le-of-eq hs) in
-      let e : front ++ replicate (8 + x) 0 ≡ (front ++ replicate 8 0) ++ replicate x 0 = rw (← (replicate-append-replicate {A = ℕ} 8 x 0)) (sym (append-assoc front (replicate 8 0) (replicate x 0))) in
+      let e : front ++ replicate (8 + x) 0 ≡ (front ++ replicate 8 0) ++ replicate x 0 =
+      rw (← (replicate-append-replicate {A = ℕ} 8 x 0)) (sym (append-assoc front (replicate 8 0) (replicate x 0))) in
       let l : length (front ++ replicate 8 0) ≡ k + 1 + z + 8 = length-append front (replicate 8 0) ∙ ap (λ (n : ℕ). n + 8) length-front in
       let p : take (k + 1 + z) (front ++ replicate (8 + x) 0) ≡ front = take-at front (replicate (8 + x) 0) (k + 1 + z) length-front in
       let q : drop (k + 1 + z + 8) (front ++ replicate (8 + x) 0) ≡ replicate x 0 = rw e (drop-at (front ++ replicate 8 0) (replicate x 0) (k + 1 + z + 8) l) in

@@ -33,7 +33,8 @@ module _ (s e block : List ℕ) (h : encoded s ≡ some e) where
 
 module _ (s block : List ℕ) (at skip n : ℕ) where
   -- one byte more
-  pub goes-more : (b at′ skip′ : ℕ) → n < length block → Steps s at skip (Byte b at′ skip′) → (m : List ℕ) → Goes s block at skip n m → Goes s (set block n b) at′ skip′ (n + 1) m
+  pub goes-more : (b at′ skip′ : ℕ) → n < length block → Steps s at skip (Byte b at′ skip′) → (m : List ℕ) → Goes s block at skip n m
+      → Goes s (set block n b) at′ skip′ (n + 1) m
   goes-more b at′ skip′ h t m w =
       let q = t .2 (w .rest) (w .comes) in
       record {
@@ -66,11 +67,13 @@ module _ {S : Type 0} (f : S → List ℕ → S) (order : ℕ → List ℕ) (tot
     pub all : n < 64 → rest ≡ take n block
 
   -- the first block is filled
-  pub hashes-first : {block block′ : List ℕ} {at skip n at′ skip′ n′ : ℕ} → Fills s block at skip n block′ at′ skip′ n′ → Goes s block at skip n m₀ → Hashes h₀ block′ at′ skip′ n′
+  pub hashes-first : {block block′ : List ℕ} {at skip n at′ skip′ n′ : ℕ} → Fills s block at skip n block′ at′ skip′ n′ → Goes s block at skip n m₀
+      → Hashes h₀ block′ at′ skip′ n′
   hashes-first w g = record { rest = m₀; goes = w .goes m₀ g; same = refl; all = λ k. w .all k m₀ g }
 
   -- a full block is hashed, and filled again
-  pub hashes-more : (wide : (n : ℕ) → length (order n) ≡ 8) {h v : S} {block block′ : List ℕ} {at skip n at′ skip′ n′ : ℕ} → length block ≡ 64 → n ≡ 64 → Hashes h block at skip n
+  pub hashes-more : (wide : (n : ℕ) → length (order n) ≡ 8) {h v : S} {block block′ : List ℕ} {at skip n at′ skip′ n′ : ℕ} → length block ≡ 64 → n ≡ 64
+      → Hashes h block at skip n
       → v ≡ blocks f h block (length block / 64) → Fills s block at skip 0 block′ at′ skip′ n′ → Hashes v block′ at′ skip′ n′
   hashes-more wide {h} {v} {block} {at = at} {skip = skip} {n = n} l e w g k =
       let r = w .goes .rest in
@@ -78,7 +81,8 @@ module _ {S : Type 0} (f : S → List ℕ → S) (order : ℕ → List ℕ) (tot
       record {
         rest = r;
         goes = k .goes r o;
-        same = rw (g, l) (sym (block-off f order wide total h (w .rest) block r l (w .goes .parts ∙ ap (λ (x : List ℕ). x ++ r) (take-all n block (le-of-eq (l ∙ sym e)))))) ∙ w .same;
+        same = rw (g, l) (sym (block-off f order wide total h (w .rest) block r l
+            (w .goes .parts ∙ ap (λ (x : List ℕ). x ++ r) (take-all n block (le-of-eq (l ∙ sym e)))))) ∙ w .same;
         all = λ q. k .all q r o;
       }
 

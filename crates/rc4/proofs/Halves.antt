@@ -59,7 +59,8 @@ sides-more f h k d d′ x y lt fits gx gy w =
       same = simp length-set (w .same);
       low = λ n g.
           either k n
-          (λ m. let q : n ≡ k = omega arith in rw q (getD-set-other (set d′ k x) (k + h) k y 0 (λ e. omega arith) ∙ getD-set-same d′ k x 0 (rw (w .same) (omega arith)) ∙ gx))
+          (λ m. let q : n ≡ k = omega arith in rw q
+          (getD-set-other (set d′ k x) (k + h) k y 0 (λ e. omega arith) ∙ getD-set-same d′ k x 0 (rw (w .same) (omega arith)) ∙ gx))
           (λ m. kept n (λ e. omega arith) (λ e. omega arith) ∙ w .low n m);
       high = λ n g l.
           either (k + h) n

@@ -29,7 +29,8 @@ module _ (array : List ℕ) (index : ℕ) (s : List ℕ) (start at : ℕ) (twice
       record {
         same = w .same;
         before = w .before;
-        inside = λ o h k. w .inside o h k ∙ ap (λ (l : List ℕ). getD l (o - at) 0) b ∙ getD-tabulate _ 16 (o - at) 0 (omega arith) ∙ here o (o - at) (omega arith) (omega arith);
+        inside = λ o h k. w .inside o h k ∙ ap (λ (l : List ℕ). getD l (o - at) 0) b ∙ getD-tabulate _ 16 (o - at) 0 (omega arith) ∙ here o (o - at)
+            (omega arith) (omega arith);
         after = w .after;
       }
     where

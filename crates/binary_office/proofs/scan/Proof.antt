@@ -25,9 +25,9 @@ loop-holds c = (search needs, refl)
 facts-at-requires : tie.Need-facts-at-requires Inv-loop μ-loop
 facts-at-requires c κs =
     let at-len = c .before .before in
-    let at-le162 = at-len .before .before in
-    let start′ = at-le162 .before .before .before .before .before .before .before in
-    let h = le16-within (start′ .args .book .now) _ _ (sym (at-len .len .given .1) ∙ at-le162 .le162 .ensures) in
+    let at-second-le16 = at-len .before .before in
+    let start = at-second-le16 .before .before .before .before .before .before .before in
+    let h = le16-within (start .args .book .now) _ _ (sym (at-len .len .given .1) ∙ at-second-le16 .le162 .ensures) in
     omega arith
 
 loop-again : tie.Need-loop-again Inv-loop μ-loop
@@ -35,14 +35,14 @@ loop-again c =
     let at-never-encrypted = c .before .before in
     let at-if1 = at-never-encrypted .before in
     let at-len = at-if1 .before .before in
-    let at-le162 = at-len .before .before in
-    let at-id = at-le162 .before .before in
+    let at-second-le16 = at-len .before .before in
+    let at-id = at-second-le16 .before .before in
     let at-le16 = at-id .before .before in
     let at-loop = at-le16 .before in
-    let start′ = at-loop .before .before in (
+    let start = at-loop .before .before in (
       c .if3 .left,
-      scan-on (start′ .args .book .now) (at-loop .loop .at) _ _ (sym (at-id .id .given .1) ∙ at-le16 .le16 .ensures)
-          (sym (at-len .len .given .1) ∙ at-le162 .le162 .ensures) (at-if1 .if1 .left)
+      scan-on (start .args .book .now) (at-loop .loop .at) _ _ (sym (at-id .id .given .1) ∙ at-le16 .le16 .ensures)
+          (sym (at-len .len .given .1) ∙ at-second-le16 .le162 .ensures) (at-if1 .if1 .left)
           (sym (at-never-encrypted .never-encrypted .ensures) ∙ not-false _ (c .before .if2 .left)) (c .if3 .left) ∙ at-loop .loop .inv .1,
     )
 
@@ -50,41 +50,41 @@ returns : tie.Need-returns Inv-loop μ-loop
 returns c =
     let at-le16 = c .before .before in
     let at-loop = at-le16 .before in
-    let start′ = at-loop .before .before in
-    scan-no-id (start′ .args .book .now) (at-loop .loop .at) (sym (c .enum-told .given .1) ∙ at-le16 .le16 .ensures) ∙ at-loop .loop .inv .1
+    let start = at-loop .before .before in
+    scan-no-id (start .args .book .now) (at-loop .loop .at) (sym (c .enum-told .given .1) ∙ at-le16 .le16 .ensures) ∙ at-loop .loop .inv .1
 
 returns-2 : tie.Need-returns-2 Inv-loop μ-loop
 returns-2 c =
-    let at-le162 = c .before .before in
-    let at-id = at-le162 .before .before in
+    let at-second-le16 = c .before .before in
+    let at-id = at-second-le16 .before .before in
     let at-le16 = at-id .before .before in
     let at-loop = at-le16 .before in
-    let start′ = at-loop .before .before in
-    scan-no-len (start′ .args .book .now) (at-loop .loop .at) _ (sym (at-id .id .given .1) ∙ at-le16 .le16 .ensures)
-    (sym (c .enum-told2 .given .1) ∙ at-le162 .le162 .ensures) ∙ at-loop .loop .inv .1
+    let start = at-loop .before .before in
+    scan-no-len (start .args .book .now) (at-loop .loop .at) _ (sym (at-id .id .given .1) ∙ at-le16 .le16 .ensures)
+    (sym (c .enum-told2 .given .1) ∙ at-second-le16 .le162 .ensures) ∙ at-loop .loop .inv .1
 
 returns-3 : tie.Need-returns-3 Inv-loop μ-loop
 returns-3 c =
     let at-len = c .before .before .before in
-    let at-le162 = at-len .before .before in
-    let at-id = at-le162 .before .before in
+    let at-second-le16 = at-len .before .before in
+    let at-id = at-second-le16 .before .before in
     let at-le16 = at-id .before .before in
     let at-loop = at-le16 .before in
-    let start′ = at-loop .before .before in
-    ap Yes (c .facts-at .ensures) ∙ scan-found (start′ .args .book .now) (at-loop .loop .at) _ _ (sym (at-id .id .given .1) ∙ at-le16 .le16 .ensures)
-    (sym (at-len .len .given .1) ∙ at-le162 .le162 .ensures) (c .before .if1 .taken) ∙ at-loop .loop .inv .1
+    let start = at-loop .before .before in
+    ap Yes (c .facts-at .ensures) ∙ scan-found (start .args .book .now) (at-loop .loop .at) _ _ (sym (at-id .id .given .1) ∙ at-le16 .le16 .ensures)
+    (sym (at-len .len .given .1) ∙ at-second-le16 .le162 .ensures) (c .before .if1 .taken) ∙ at-loop .loop .inv .1
 
 returns-4 : tie.Need-returns-4 Inv-loop μ-loop
 returns-4 c =
     let at-if1 = c .before .before in
     let at-len = at-if1 .before .before in
-    let at-le162 = at-len .before .before in
-    let at-id = at-le162 .before .before in
+    let at-second-le16 = at-len .before .before in
+    let at-id = at-second-le16 .before .before in
     let at-le16 = at-id .before .before in
     let at-loop = at-le16 .before in
-    let start′ = at-loop .before .before in
-    scan-absent (start′ .args .book .now) (at-loop .loop .at) _ _ (sym (at-id .id .given .1) ∙ at-le16 .le16 .ensures)
-    (sym (at-len .len .given .1) ∙ at-le162 .le162 .ensures) (at-if1 .if1 .left) (sym (c .before .never-encrypted .ensures) ∙ not-true _ (c .if2 .taken))
+    let start = at-loop .before .before in
+    scan-absent (start .args .book .now) (at-loop .loop .at) _ _ (sym (at-id .id .given .1) ∙ at-le16 .le16 .ensures)
+    (sym (at-len .len .given .1) ∙ at-second-le16 .le162 .ensures) (at-if1 .if1 .left) (sym (c .before .never-encrypted .ensures) ∙ not-true _ (c .if2 .taken))
     ∙ at-loop .loop .inv .1
 
 returns-5 : tie.Need-returns-5 Inv-loop μ-loop
@@ -92,13 +92,13 @@ returns-5 c =
     let at-never-encrypted = c .before .before in
     let at-if1 = at-never-encrypted .before in
     let at-len = at-if1 .before .before in
-    let at-le162 = at-len .before .before in
-    let at-id = at-le162 .before .before in
+    let at-second-le16 = at-len .before .before in
+    let at-id = at-second-le16 .before .before in
     let at-le16 = at-id .before .before in
     let at-loop = at-le16 .before in
-    let start′ = at-loop .before .before in
-    scan-past (start′ .args .book .now) (at-loop .loop .at) _ _ (sym (at-id .id .given .1) ∙ at-le16 .le16 .ensures)
-    (sym (at-len .len .given .1) ∙ at-le162 .le162 .ensures) (at-if1 .if1 .left)
+    let start = at-loop .before .before in
+    scan-past (start .args .book .now) (at-loop .loop .at) _ _ (sym (at-id .id .given .1) ∙ at-le16 .le16 .ensures)
+    (sym (at-len .len .given .1) ∙ at-second-le16 .le162 .ensures) (at-if1 .if1 .left)
     (sym (at-never-encrypted .never-encrypted .ensures) ∙ not-false _ (c .before .if2 .left)) (c .if3 .taken) ∙ at-loop .loop .inv .1
 
 pub scan-spec : {M : Type 1} → statement M

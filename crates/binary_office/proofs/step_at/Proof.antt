@@ -18,35 +18,35 @@ returns-2 c =
 
 returns-3 : tie.Need-returns-3
 returns-3 c =
-    let at-le162 = c .before .before in
-    let at-id = at-le162 .before .before in
+    let at-second-le16 = c .before .before in
+    let at-id = at-second-le16 .before .before in
     let at-le16 = at-id .before .before in
     let at-if1 = at-le16 .before in
     let start = at-if1 .before .before in
     step-no-len (start .args .s .now) (start .args .at) (at-if1 .if1 .left) _ (sym (at-id .id .given .1) ∙ at-le16 .le16 .ensures)
-    (sym (c .enum-told2 .given .1) ∙ at-le162 .le162 .ensures)
+    (sym (c .enum-told2 .given .1) ∙ at-second-le16 .le162 .ensures)
 
 returns-4 : tie.Need-returns-4
 returns-4 c =
     let at-len = c .before .before in
-    let at-le162 = at-len .before .before in
-    let at-id = at-le162 .before .before in
+    let at-second-le16 = at-len .before .before in
+    let at-id = at-second-le16 .before .before in
     let at-le16 = at-id .before .before in
     let at-if1 = at-le16 .before in
     let start = at-if1 .before .before in
     step-record (start .args .s .now) (start .args .at) (at-if1 .if1 .left) _ _ (sym (at-id .id .given .1) ∙ at-le16 .le16 .ensures)
-    (sym (at-len .len .given .1) ∙ at-le162 .le162 .ensures) (c .if2 .taken)
+    (sym (at-len .len .given .1) ∙ at-second-le16 .le162 .ensures) (c .if2 .taken)
 
 returns-5 : tie.Need-returns-5
 returns-5 c =
     let at-len = c .before .before in
-    let at-le162 = at-len .before .before in
-    let at-id = at-le162 .before .before in
+    let at-second-le16 = at-len .before .before in
+    let at-id = at-second-le16 .before .before in
     let at-le16 = at-id .before .before in
     let at-if1 = at-le16 .before in
     let start = at-if1 .before .before in
     step-past (start .args .s .now) (start .args .at) (at-if1 .if1 .left) _ _ (sym (at-id .id .given .1) ∙ at-le16 .le16 .ensures)
-    (sym (at-len .len .given .1) ∙ at-le162 .le162 .ensures) (c .if2 .left)
+    (sym (at-len .len .given .1) ∙ at-second-le16 .le162 .ensures) (c .if2 .left)
 
 pub step-at-spec : {M : Type 1} → statement M
 step-at-spec =

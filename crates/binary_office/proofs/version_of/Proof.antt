@@ -13,18 +13,18 @@ returns c = rw (← (sym (c .enum-told .given .1) ∙ c .before .before .le16 .e
 returns-2 : tie.Need-returns-2
 unfolding versionOf
 returns-2 c =
-    let at-le162 = c .before .before in
-    let at-major = at-le162 .before .before in
+    let at-second-le16 = c .before .before in
+    let at-major = at-second-le16 .before .before in
     let at-le16 = at-major .before .before in
-    rw (← (sym (at-major .major .given .1) ∙ at-le16 .le16 .ensures), ← (sym (c .enum-told2 .given .1) ∙ at-le162 .le162 .ensures))
+    rw (← (sym (at-major .major .given .1) ∙ at-le16 .le16 .ensures), ← (sym (c .enum-told2 .given .1) ∙ at-second-le16 .le162 .ensures))
 
 returns-3 : tie.Need-returns-3
 unfolding versionOf
 returns-3 c =
-    let at-le162 = c .before .before .before in
-    let at-major = at-le162 .before .before in
+    let at-second-le16 = c .before .before .before in
+    let at-major = at-second-le16 .before .before in
     let at-le16 = at-major .before .before in
-    rw (← (sym (at-major .major .given .1) ∙ at-le16 .le16 .ensures), ← (sym (c .before .minor .given .1) ∙ at-le162 .le162 .ensures))
+    rw (← (sym (at-major .major .given .1) ∙ at-le16 .le16 .ensures), ← (sym (c .before .minor .given .1) ∙ at-second-le16 .le162 .ensures))
 
 pub version-of-spec : {M : Type 1} → statement M
 version-of-spec =

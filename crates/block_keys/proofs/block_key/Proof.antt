@@ -26,8 +26,8 @@ returns c =
     let start = c .before .before .before .before in
     let args = start .args in
     c .block-key .ensures
-    ∙ ap derived (ap (λ (l : List ℕ). office97.blockKey l (args .block)) (heads (args .schedule .digest) 5 (five _ (twenty start))) ∙ sym
-    (key-97 (args .schedule) (args .block) (c .before .enum-told .given .1)))
+    ∙ ap derived (ap (λ (l : List ℕ). office97.blockKey l (args .block)) (heads (args .schedule .digest) 5 (five _ (twenty start)))
+    ∙ sym (key-97 (args .schedule) (args .block) (c .before .enum-told .given .1)))
 
 returns-2 : tie.Need-returns-2
 returns-2 c =

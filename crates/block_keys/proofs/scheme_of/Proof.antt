@@ -14,31 +14,32 @@ returns c =
 
 returns-2 : tie.Need-returns-2
 returns-2 c =
-    let at-le162 = c .before .before in
-    let start = at-le162 .before .before .before .before .before .before in
-    no-minor (start .args .structure .now) (sym (c .enum-told2 .given .1) ∙ at-le162 .le162 .ensures)
+    let at-second-le16 = c .before .before in
+    let start = at-second-le16 .before .before .before .before .before .before in
+    no-minor (start .args .structure .now) (sym (c .enum-told2 .given .1) ∙ at-second-le16 .le162 .ensures)
 
 returns-3 : tie.Need-returns-3
 returns-3 c =
     let at-match3 = c .before .before in
     let at-minor = at-match3 .before .before in
-    let at-le162 = at-minor .before .before in
-    let at-major = at-le162 .before .before in
+    let at-second-le16 = at-minor .before .before in
+    let at-major = at-second-le16 .before .before in
     let at-le16 = at-major .before .before in
     let start = at-le16 .before .before in
     c .office97 .ensures
-    ∙ version-97 (start .args .structure .now) _ _ (sym (at-major .major .given .1) ∙ at-le16 .le16 .ensures) (sym (at-minor .minor .given .1) ∙ at-le162 .le162 .ensures)
+    ∙ version-97 (start .args .structure .now) _ _ (sym (at-major .major .given .1) ∙ at-le16 .le16 .ensures)
+    (sym (at-minor .minor .given .1) ∙ at-second-le16 .le162 .ensures)
     (rw (at-match3 .match3 .keys1, c .before .match4 .keys1)) (rw (at-match3 .match3 .keys1))
 
 returns-4 : tie.Need-returns-4
 returns-4 c =
     let at-minor = c .before .before .before in
-    let at-le162 = at-minor .before .before in
-    let at-major = at-le162 .before .before in
+    let at-second-le16 = at-minor .before .before in
+    let at-major = at-second-le16 .before .before in
     let at-le16 = at-major .before .before in
     let start = at-le16 .before .before in
     other-version (start .args .structure .now) _ _ (sym (at-major .major .given .1) ∙ at-le16 .le16 .ensures)
-    (sym (at-minor .minor .given .1) ∙ at-le162 .le162 .ensures)
+    (sym (at-minor .minor .given .1) ∙ at-second-le16 .le162 .ensures)
     (one-other (at-major .major .given .0 .0) (at-minor .minor .given .0 .0) (c .before .match3 .keys1) (c .match4 .rest .1)) (rw (c .before .match3 .keys1))
 
 returns-5 : tie.Need-returns-5
@@ -47,13 +48,13 @@ returns-5 c =
     let at-if1 = at-if2 .before in
     let at-match3 = at-if1 .before in
     let at-minor = at-match3 .before .before in
-    let at-le162 = at-minor .before .before in
-    let at-major = at-le162 .before .before in
+    let at-second-le16 = at-minor .before .before in
+    let at-major = at-second-le16 .before .before in
     let at-le16 = at-major .before .before in
     let start = at-le16 .before .before in
     c .crypto-api .ensures
     ∙ version-api (start .args .structure .now) _ _ (sym (at-major .major .given .1) ∙ at-le16 .le16 .ensures)
-    (sym (at-minor .minor .given .1) ∙ at-le162 .le162 .ensures)
+    (sym (at-minor .minor .given .1) ∙ at-second-le16 .le162 .ensures)
     (not-one (at-major .major .given .0 .0) (at-minor .minor .given .0 .0) (at-match3 .match3 .rest .1))
     (api (at-major .major .given .0 .0) (at-minor .minor .given .0 .0) (at-match3 .match3 .rest .1) (at-if1 .if1 .left) (at-if2 .if2 .taken) (c .before .match5 .keys1))
 
@@ -61,24 +62,24 @@ returns-6 : tie.Need-returns-6
 returns-6 c =
     let at-match3 = c .before .before .before in
     let at-minor = at-match3 .before .before in
-    let at-le162 = at-minor .before .before in
-    let at-major = at-le162 .before .before in
+    let at-second-le16 = at-minor .before .before in
+    let at-major = at-second-le16 .before .before in
     let at-le16 = at-major .before .before in
     let start = at-le16 .before .before in
     other-version (start .args .structure .now) _ _ (sym (at-major .major .given .1) ∙ at-le16 .le16 .ensures)
-    (sym (at-minor .minor .given .1) ∙ at-le162 .le162 .ensures)
+    (sym (at-minor .minor .given .1) ∙ at-second-le16 .le162 .ensures)
     (not-one (at-major .major .given .0 .0) (at-minor .minor .given .0 .0) (at-match3 .match3 .rest .1))
     (api-other (at-major .major .given .0 .0) (at-minor .minor .given .0 .0) (c .match5 .rest .1))
 
 returns-7 : tie.Need-returns-7
 returns-7 c =
     let at-minor = c .before .before .before in
-    let at-le162 = at-minor .before .before in
-    let at-major = at-le162 .before .before in
+    let at-second-le16 = at-minor .before .before in
+    let at-major = at-second-le16 .before .before in
     let at-le16 = at-major .before .before in
     let start = at-le16 .before .before in
     other-version (start .args .structure .now) _ _ (sym (at-major .major .given .1) ∙ at-le16 .le16 .ensures)
-    (sym (at-minor .minor .given .1) ∙ at-le162 .le162 .ensures)
+    (sym (at-minor .minor .given .1) ∙ at-second-le16 .le162 .ensures)
     (not-one (at-major .major .given .0 .0) (at-minor .minor .given .0 .0) (c .before .match3 .rest .1))
     (low (at-major .major .given .0 .0) (at-minor .minor .given .0 .0) (c .if1 .taken))
 
@@ -86,12 +87,12 @@ returns-8 : tie.Need-returns-8
 returns-8 c =
     let at-match3 = c .before .before in
     let at-minor = at-match3 .before .before in
-    let at-le162 = at-minor .before .before in
-    let at-major = at-le162 .before .before in
+    let at-second-le16 = at-minor .before .before in
+    let at-major = at-second-le16 .before .before in
     let at-le16 = at-major .before .before in
     let start = at-le16 .before .before in
     other-version (start .args .structure .now) _ _ (sym (at-major .major .given .1) ∙ at-le16 .le16 .ensures)
-    (sym (at-minor .minor .given .1) ∙ at-le162 .le162 .ensures)
+    (sym (at-minor .minor .given .1) ∙ at-second-le16 .le162 .ensures)
     (not-one (at-major .major .given .0 .0) (at-minor .minor .given .0 .0) (at-match3 .match3 .rest .1))
     (high (at-major .major .given .0 .0) (at-minor .minor .given .0 .0) (c .if2 .left))
 

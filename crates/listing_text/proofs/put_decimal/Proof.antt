@@ -31,7 +31,13 @@ put-requires c κs =
     let at-put-placed3 = at-put-placed4 .before .before .before .before in
     let at-put-placed2 = at-put-placed3 .before .before .before .before in
     let at-put-placed = at-put-placed2 .before .before .before .before in
-    omega (arith, at-put-placed .put-placed .ensures .1, at-put-placed2 .put-placed2 .ensures .1, at-put-placed3 .put-placed3 .ensures .1, at-put-placed4 .put-placed4 .ensures .1)
+    omega (
+      arith,
+      at-put-placed .put-placed .ensures .1,
+      at-put-placed2 .put-placed2 .ensures .1,
+      at-put-placed3 .put-placed3 .ensures .1,
+      at-put-placed4 .put-placed4 .ensures .1,
+    )
 
 returns : tie.Need-returns
 returns c =

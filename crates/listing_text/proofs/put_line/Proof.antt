@@ -34,7 +34,15 @@ put-requires-3 c κs =
     let at-put = at-put-hex .before .before .before .before in
     let at-put-decimal = at-put .before .before .before .before in
     let start = at-put-decimal .before .before .before in
-    omega (arith, at-put-decimal .put-decimal .ensures .1, at-put .put .ensures .behind, at-put-hex .put-hex .ensures .1, at-put2 .put2 .ensures .behind, at-put-decimal2 .put-decimal2 .ensures .1, start .pre .0)
+    omega (
+      arith,
+      at-put-decimal .put-decimal .ensures .1,
+      at-put .put .ensures .behind,
+      at-put-hex .put-hex .ensures .1,
+      at-put2 .put2 .ensures .behind,
+      at-put-decimal2 .put-decimal2 .ensures .1,
+      start .pre .0,
+    )
 
 put-decimal-requires-3 : tie.Need-put-decimal-requires-3
 put-decimal-requires-3 c κs =
@@ -45,7 +53,17 @@ put-decimal-requires-3 c κs =
     let at-put = at-put-hex .before .before .before .before in
     let at-put-decimal = at-put .before .before .before .before in
     let start = at-put-decimal .before .before .before in
-    omega (arith, at-put-decimal .put-decimal .ensures .1, at-put .put .ensures .behind, at-put-hex .put-hex .ensures .1, at-put2 .put2 .ensures .behind, at-put-decimal2 .put-decimal2 .ensures .1, at-put3 .put3 .ensures .behind, c .clear-len .ok, start .pre .0)
+    omega (
+      arith,
+      at-put-decimal .put-decimal .ensures .1,
+      at-put .put .ensures .behind,
+      at-put-hex .put-hex .ensures .1,
+      at-put2 .put2 .ensures .behind,
+      at-put-decimal2 .put-decimal2 .ensures .1,
+      at-put3 .put3 .ensures .behind,
+      c .clear-len .ok,
+      start .pre .0,
+    )
 
 put-requires-4 : tie.Need-put-requires-4
 put-requires-4 c κs =
@@ -57,7 +75,17 @@ put-requires-4 c κs =
     let at-put = at-put-hex .before .before .before .before in
     let at-put-decimal = at-put .before .before .before .before in
     let start = at-put-decimal .before .before .before in
-    omega (arith, at-put-decimal .put-decimal .ensures .1, at-put .put .ensures .behind, at-put-hex .put-hex .ensures .1, at-put2 .put2 .ensures .behind, at-put-decimal2 .put-decimal2 .ensures .1, at-put3 .put3 .ensures .behind, at-put-decimal3 .put-decimal3 .ensures .1, start .pre .0)
+    omega (
+      arith,
+      at-put-decimal .put-decimal .ensures .1,
+      at-put .put .ensures .behind,
+      at-put-hex .put-hex .ensures .1,
+      at-put2 .put2 .ensures .behind,
+      at-put-decimal2 .put-decimal2 .ensures .1,
+      at-put3 .put3 .ensures .behind,
+      at-put-decimal3 .put-decimal3 .ensures .1,
+      start .pre .0,
+    )
 
 returns : tie.Need-returns
 unfolding line

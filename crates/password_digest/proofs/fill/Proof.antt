@@ -29,9 +29,9 @@ told : (c : tie.After-known-told Inv-loop μ-loop)
 told c =
     let at-next-byte = c .before .before .before in
     let at-loop = at-next-byte .before .before in
-    let start′ = at-loop .before .before .before in
+    let start = at-loop .before .before .before in
     let l = at-loop .loop in
-    subst (λ (r : Step). Steps (start′ .args .text .now) (l .at) (l .skip) r) (c .before .byte .given .1) (at-next-byte .next-byte .ensures)
+    subst (λ (r : Step). Steps (start .args .text .now) (l .at) (l .skip) r) (c .before .byte .given .1) (at-next-byte .next-byte .ensures)
 
 loop-holds : tie.Need-loop-holds Inv-loop μ-loop
 loop-holds c = let p = c .before .before .pre in (p .1, p .2, p .0, omega arith, λ m w. w)
@@ -46,24 +46,24 @@ loop-again c =
 same-length : tie.Need-same-length Inv-loop μ-loop
 same-length c =
     let at-loop = c .before .before .before .before in
-    let start′ = at-loop .before .before .before in
-    at-loop .loop .inv .2 ∙ sym (start′ .pre .0)
+    let start = at-loop .before .before .before in
+    at-loop .loop .inv .2 ∙ sym (start .pre .0)
 
 returns : tie.Need-returns Inv-loop μ-loop
 returns c =
     let at-next-byte = c .before .before in
     let at-loop = at-next-byte .before .before in
-    let start′ = at-loop .before .before .before in
+    let start = at-loop .before .before .before in
     let l = at-loop .loop in
     let i = l .inv in
-    let s = start′ .args .text .now in
+    let s = start .args .text .now in
     let t : Steps s (l .at) (l .skip) Done = subst (λ (r : Step). Steps s (l .at) (l .skip) r) (c .enum-told .given .1) (at-next-byte .next-byte .ensures) in
     record { room = i .0; inner = i .1; fewer = i .3; goes = i .4; all = λ h m w. goes-all s _ _ _ _ t m (i .4 m w) }
 
 same-length-2 : tie.Need-same-length-2 Inv-loop μ-loop
 same-length-2 c =
-    let start′ = c .before .before .before .before in
-    c .before .loop .inv .2 ∙ sym (start′ .pre .0)
+    let start = c .before .before .before .before in
+    c .before .loop .inv .2 ∙ sym (start .pre .0)
 
 returns-2 : tie.Need-returns-2 Inv-loop μ-loop
 returns-2 c =

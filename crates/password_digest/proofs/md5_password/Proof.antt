@@ -23,14 +23,14 @@ returns c = too-short _ 16 _ _ (c .if1 .taken)
 slice-aggregate-md5-text : tie.Need-slice-aggregate-md5-text
 slice-aggregate-md5-text c =
     let at-if1 = c .before .before .before .before .before in
-    let start′ = at-if1 .before .before .before in
-    sym (length-take-le 64 (start′ .args .scratch .now) (at-if1 .if1 .left))
+    let entry = at-if1 .before .before .before in
+    sym (length-take-le 64 (entry .args .scratch .now) (at-if1 .if1 .left))
 
 md5-text-requires : tie.Need-md5-text-requires
 md5-text-requires c κs =
     let at-if1 = c .before .before .before .before .before in
-    let start′ = at-if1 .before .before .before in
-    length-take-le 64 (start′ .args .scratch .now) (at-if1 .if1 .left)
+    let entry = at-if1 .before .before .before in
+    length-take-le 64 (entry .args .scratch .now) (at-if1 .if1 .left)
 
 returns-2 : tie.Need-returns-2
 returns-2 c =
@@ -39,8 +39,8 @@ returns-2 c =
     let at-len = at-md5-text .before .before .before in
     let at-utf16le-len = at-len .before .before in
     let at-if1 = at-utf16le-len .before in
-    let start′ = at-if1 .before .before .before in
-    let a = start′ .args in
+    let entry = at-if1 .before .before .before in
+    let a = entry .args in
     let sp = is-spelt (a .password .now) _ (sym (at-len .len .given .1) ∙ at-utf16le-len .utf16le-len .ensures) in
     let t = at-md5-text .md5-text in
     digested (md5Of (a .password .now)) 16 (a .password .now) (a .scratch .now) (at-if1 .if1 .left) (t .result) (t .last .1 .0) (at-clear .clear .last .0)

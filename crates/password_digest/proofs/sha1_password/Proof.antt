@@ -35,14 +35,14 @@ returns c = too-short _ 20 _ _ (c .if1 .taken)
 slice-aggregate-sha1-text : tie.Need-slice-aggregate-sha1-text
 slice-aggregate-sha1-text c =
     let at-if1 = c .before .before .before .before .before .before in
-    let start′ = at-if1 .before .before .before in
-    sym (length-take-le 64 (start′ .args .scratch .now) (at-if1 .if1 .left))
+    let entry = at-if1 .before .before .before in
+    sym (length-take-le 64 (entry .args .scratch .now) (at-if1 .if1 .left))
 
 sha1-text-requires : tie.Need-sha1-text-requires
 sha1-text-requires c κs =
     let at-if1 = c .before .before .before .before .before .before in
-    let start′ = at-if1 .before .before .before in
-    length-take-le 64 (start′ .args .scratch .now) (at-if1 .if1 .left)
+    let entry = at-if1 .before .before .before in
+    length-take-le 64 (entry .args .scratch .now) (at-if1 .if1 .left)
 
 returns-2 : tie.Need-returns-2
 returns-2 c =
@@ -52,13 +52,13 @@ returns-2 c =
     let at-len = at-wrapping-add-u64 .before .before in
     let at-utf16le-len = at-len .before .before in
     let at-if1 = at-utf16le-len .before in
-    let start′ = at-if1 .before .before .before in
-    let a = start′ .args in
+    let entry = at-if1 .before .before .before in
+    let a = entry .args in
     let sp = is-spelt (a .password .now) _ (sym (at-len .len .given .1) ∙ at-utf16le-len .utf16le-len .ensures) in
     let t = at-sha1-text .sha1-text in
     let e = spelt (a .password .now) in
     digested (sha1Of (a .salt) (a .password .now)) 20 (a .password .now) (a .scratch .now) (at-if1 .if1 .left) (t .result) (t .last .1 .1 .0)
-    (at-clear .clear .last .0) (sp .formed) (t .ensures e (sp .bytes) ∙ hashed (a .salt) e _ _ (sixteen start′) (sp .count)
+    (at-clear .clear .last .0) (sp .formed) (t .ensures e (sp .bytes) ∙ hashed (a .salt) e _ _ (sixteen entry) (sp .count)
     (at-wrapping-add-u64 .wrapping-add-u64 .ensures)) (t .kept .1 .1 .0) (at-clear .clear .ensures)
 
 returns-3 : tie.Need-returns-3

@@ -36,11 +36,11 @@ loop-again c =
 
 returns : tie.Need-returns Inv-loop μ-loop
 returns c =
-    let start′ = c .before .before in
-    let a = start′ .args in
+    let start = c .before .before in
+    let a = start .args in
     let l = c .before .loop in
     let e : l .i ≡ a .n = omega arith in
-    l .inv .4 ∙ ap (λ (n : ℕ). paste (replicate 16 0) 0 (a .t1) n) e ∙ padded (a .t1) (a .n) (start′ .pre)
+    l .inv .4 ∙ ap (λ (n : ℕ). paste (replicate 16 0) 0 (a .t1) n) e ∙ padded (a .t1) (a .n) (start .pre)
 
 pub head-spec : {M : Type 1} → statement M
 head-spec =

@@ -24,9 +24,9 @@ loop-holds c = (search needs, written-none _ 0 _)
 loop-again : tie.Need-loop-again Inv-loop μ-loop
 loop-again c =
     let at-loop = c .before .before .before .before in
-    let start′ = at-loop .before .before .before in
+    let entry = at-loop .before .before .before in
     let l = at-loop .loop in
-    let a = start′ .args in
+    let a = entry .args in
     let e : (a .index % 16 + l .k) % 16 ≡ (a .index + l .k) % 16 = omega arith in
     let x : c .deciphered-byte .result ≡ decipheredAt (a .array .now) (a .index) (a .src .now) (l .k) =
     c .deciphered-byte .ensures ∙ ap (λ (n : ℕ). rotr 8 5 (bitXor (getD (a .src .now) (l .k) 0) (getD (a .array .now) n 0))) e in
@@ -34,9 +34,9 @@ loop-again c =
 
 returns : tie.Need-returns Inv-loop μ-loop
 returns c =
-    let start′ = c .before .before .before .before in
+    let entry = c .before .before .before .before in
     let l = c .before .loop in
-    let e : l .k ≡ start′ .args .n = omega arith in
+    let e : l .k ≡ entry .args .n = omega arith in
     rw e at (l .inv .1)
 
 pub decrypt-short-spec : {M : Type 1} → statement M

@@ -27,9 +27,9 @@ loop-holds c = (search needs, search needs, refl)
 loop-again : tie.Need-loop-again Inv-loop μ-loop
 loop-again c =
     let at-loop = c .before .before .before .before in
-    let start′ = at-loop .before .before in
+    let entry = at-loop .before .before in
     let l = at-loop .loop in
-    let a = start′ .args in
+    let a = entry .args in
     let f : ℕ → ℕ = λ (n : ℕ). rotr 8 5 (bitXor (getD (a .src .now) (a .at + n) 0) (getD (a .twice .now) (a .start + n) 0)) in
     (search needs, search needs, tabulate-store f (l .out) (l .i) (c .deciphered-byte .result) (omega arith) (l .inv .2) (c .deciphered-byte .ensures))
 
