@@ -1,5 +1,5 @@
 -- The walk, record by record. Each record moves the offset on by four bytes at the least and not past the end, so the fuel of the definition is
--- always enough, and outside this file only `walk-end`, `walk-fault` and `walk-record` are used.
+-- always enough. Other proofs open the walk by `walk-end`, `walk-fault` and `walk-record`; the short books alone compute it.
 -- Assumes nothing.
 use mathlib.Core.Path.{_≡_, refl, sym, ap, _∙_}
 use mathlib.Core.List.{List, []}
