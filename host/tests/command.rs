@@ -4,7 +4,7 @@ mod common;
 
 use std::fs::{self, OpenOptions};
 use std::io::Read;
-use std::os::unix::fs::symlink;
+use std::os::unix::fs::{symlink, PermissionsExt};
 use std::process::Stdio;
 
 use common::bench::{Bench, Ran, PASSWORD, REPORT};
@@ -228,6 +228,14 @@ fn streams_that_are_not_in_order_are_refused_by_number() {
 }
 
 #[test]
+fn no_terminal_and_no_password() {
+    let bench = Bench::new();
+    let ran = bench.run("open calibres.bin -o plain");
+    ran.failed(2, &["no terminal", "--password-file", "SHEET_PASSWORD"]);
+    bench.has_only(&[]);
+}
+
+#[test]
 fn files_that_can_t_be_read() {
     let bench = Bench::new();
     fs::create_dir(bench.folder.join("drawer")).unwrap();
@@ -359,6 +367,20 @@ fn an_output_that_is_there_is_replaced_when_the_new_one_is_whole() {
         .unwrap()
         .is_symlink());
     bench.has_only(&["link", "plain", "target"]);
+}
+
+#[test]
+fn an_output_that_is_replaced_keeps_its_permissions() {
+    let bench = Bench::new();
+    let old = bench.write("plain", b"old");
+    for mode in [0o640, 0o600] {
+        fs::set_permissions(&old, fs::Permissions::from_mode(mode)).unwrap();
+        let ran = bench.run_with("open calibres.bin -o plain", PASSWORD);
+        assert_eq!(ran.status, Some(0));
+        assert!(bench.read("plain") == bench.plain());
+        let after = fs::metadata(&old).unwrap().permissions();
+        assert_eq!(after.mode() & 0o777, mode);
+    }
 }
 
 #[test]

@@ -1,5 +1,5 @@
-//! The command, where more of the machine comes into it than files: devices, permissions, limits, a
-//! missing terminal.
+//! The command, where more of the machine comes into it than files: devices, users, limits, files
+//! with holes, readers that go away.
 
 mod common;
 
@@ -28,14 +28,6 @@ fn a_command_that_waits_for_ever_is_killed() {
     // Nothing comes, and the pipe stays open.
     let process = Process::start(command.stdin(Stdio::piped()));
     process.within(Duration::from_millis(100)).end();
-}
-
-#[test]
-fn no_terminal_and_no_password() {
-    let bench = Bench::new();
-    let ran = bench.run("open calibres.bin -o plain");
-    ran.failed(2, &["no terminal", "--password-file", "SHEET_PASSWORD"]);
-    bench.has_only(&[]);
 }
 
 #[test]
@@ -104,20 +96,6 @@ fn an_output_that_grows_too_large_is_not_left_half_written() {
     }
     assert_eq!(bench.read("old"), b"old");
     bench.has_only(&["old"]);
-}
-
-#[test]
-fn an_output_that_is_replaced_keeps_its_permissions() {
-    let bench = Bench::new();
-    let old = bench.write("plain", b"old");
-    for mode in [0o640, 0o600] {
-        fs::set_permissions(&old, fs::Permissions::from_mode(mode)).unwrap();
-        let ran = bench.run_with("open calibres.bin -o plain", PASSWORD);
-        assert_eq!(ran.status, Some(0));
-        assert!(bench.read("plain") == bench.plain());
-        let after = fs::metadata(&old).unwrap().permissions();
-        assert_eq!(after.mode() & 0o777, mode);
-    }
 }
 
 #[test]

@@ -78,7 +78,8 @@ module _ (k k′ : Keystream) (key s d ys : List ℕ) (at end : ℕ) (e : k ≡ 
       least n = omega arith
 
 -- two blocks side by side
-module _ (j k : Keystream) (key key′ s d ys : List ℕ) (at size : ℕ) (ej : j ≡ keyed key) (ek : k ≡ keyed key′) (hs : at + (size + size) ≤ length s) (hd : at + (size + size) ≤ length d)
+module _ (j k : Keystream) (key key′ s d ys : List ℕ) (at size : ℕ) (ej : j ≡ keyed key) (ek : k ≡ keyed key′) (hs : at + (size + size) ≤ length s)
+    (hd : at + (size + size) ≤ length d)
     (a : AppliesHalves j k (take (at + (size + size) - at) (drop at s)) (take (at + (size + size) - at) (drop at d)) ys) where
   pub two-blocks : Written (λ (o : ℕ). pick (ltb (o - at) size) (bitXor (getD s o 0) (keystreamByte key (o - at)))
       (bitXor (getD s o 0) (keystreamByte key′ (o - at - size)))) at (at + (size + size)) d

@@ -56,7 +56,8 @@ byHeader h =
       hash = h .«encrypted_verifier_hash»;
     }
 
-pub read-api : (st : List ℕ) (a : Option Refusal) (h : CryptoApiHeader) → fromApi.unless (fromApi.header st) a ≡ ofApi.Header h → Locked (byHeader h) ≡ unless (cryptoApiLock st) a
+pub read-api : (st : List ℕ) (a : Option Refusal) (h : CryptoApiHeader) → fromApi.unless (fromApi.header st) a ≡ ofApi.Header h
+    → Locked (byHeader h) ≡ unless (cryptoApiLock st) a
 read-api st none h e = let g : h ≡ fromApi.header st = cc in ap (λ (k : CryptoApiHeader). Locked (byHeader k)) g
 read-api st (some q) h e = cc
 

@@ -37,7 +37,8 @@ module _ (a e o : ℕ) where
   between h k = rw (le-leb a o h, lt-ltb o e k)
 
 -- the five places
-pub by-place : {X : Type 0} (at len o : ℕ) → (o < at → X) → (at ≤ o → o < at + 2 → X) → (at + 2 ≤ o → o < at + 4 → X) → (at + 4 ≤ o → o < at + 4 + len → X) → (at + 4 + len ≤ o → X) → X
+pub by-place : {X : Type 0} (at len o : ℕ) → (o < at → X) → (at ≤ o → o < at + 2 → X) → (at + 2 ≤ o → o < at + 4 → X) → (at + 4 ≤ o → o < at + 4 + len → X)
+    → (at + 4 + len ≤ o → X) → X
 by-place at len o f g h k l = either at o (λ p. either (at + 2) o (λ q. either (at + 4) o (λ r. either (at + 4 + len) o l (k r)) (h q)) (g p)) f
 
 module _ (r : BiffRecord) (o : ℕ) where

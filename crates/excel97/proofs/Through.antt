@@ -27,7 +27,8 @@ module _ (f : BiffRecord → ℕ → ℕ → ℕ) (r : BiffRecord) (o x : ℕ) w
   pub other-byte : r .at + 4 + clearLen (r .id) (r .len) ≤ o → inRecord f (some r) o x ≡ f r o x
   other-byte h = left x (f r o x) (le-ltb o (r .at + 4 + clearLen (r .id) (r .len)) h)
 
-module _ (s : List ℕ) (f : BiffRecord → ℕ → ℕ → ℕ) (at id len : ℕ) (w : Reached s at) (e : stepAt s at ≡ step.Record id len) (d d₁ d₂ : List ℕ) (before : Written (throughAt s f) 0 at d d₁) where
+module _ (s : List ℕ) (f : BiffRecord → ℕ → ℕ → ℕ) (at id len : ℕ) (w : Reached s at) (e : stepAt s at ≡ step.Record id len) (d d₁ d₂ : List ℕ)
+    (before : Written (throughAt s f) 0 at d d₁) where
   here : (o : ℕ) → at ≤ o → o < at + 4 + len → throughAt s f o ≡ inRecord f (some (record { at = at; id = id; len = len })) o (getD s o 0)
   here o h k = ap (λ (r : Option BiffRecord). inRecord f r o (getD s o 0)) (record-here s at id len w e o h k)
 

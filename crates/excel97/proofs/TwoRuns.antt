@@ -18,7 +18,7 @@ use Rattle.excel97.specs.declared.Report.{Report}
 use Rattle.excel97.specs.declared.Answer.{Answer}
 use Rattle.excel97.specs.declared.Answer.the-variants.{Opened, Refused}
 use Rattle.excel97.specs.Open.{passes, plain, report, outcomeBy, Opens}
-use Rattle.excel97.specs.Demand3.{Plain, Decided, Demand3}
+use Rattle.excel97.specs.Demand3.{Plain, Decided, OfAnyTwoRuns}
 use Rattle.excel97.proofs.Answers.{earlier, Opening, scratchBy, earlier-number, decided, Ran, ran, refusing, opening, scratch-by, not-last, none-earlier, walk-clean}
 use Rattle.excel97.proofs.PlainBytes.{plain-left, length-plain}
 
@@ -49,7 +49,8 @@ record Alone (stream p scratch output : List ℕ) (a : Answer) (scratch₁ outpu
   rest : (x : Report) → a ≡ Opened x → drop (length stream) output₁ ≡ drop (length stream) output
   plain-is : (x : Report) → a ≡ Opened x → Plain stream p output₁ x
 
-alone : (stream p scratch output : List ℕ) (a : Answer) (scratch₁ output₁ : List ℕ) → length p ≤ 1024 → wellFormed p ≡ true → Opens stream p scratch output a scratch₁ output₁
+alone : (stream p scratch output : List ℕ) (a : Answer) (scratch₁ output₁ : List ℕ) → length p ≤ 1024 → wellFormed p ≡ true
+    → Opens stream p scratch output a scratch₁ output₁
     → Alone stream p scratch output a scratch₁ output₁
 alone stream p scratch output a scratch₁ output₁ short fine run =
     record {
@@ -77,10 +78,7 @@ alone stream p scratch output a scratch₁ output₁ short fine run =
     opens : (x : Report) → a ≡ Opened x → Opening stream p scratch output a scratch₁ output₁ (decided c t) x
     opens = opening stream p scratch output a scratch₁ output₁ (decided c t) this
 
-pub demand-3 : (stream scratch output p q : List ℕ) (a b : Answer) (scratch₁ output₁ scratch₂ output₂ : List ℕ)
-    → length p ≤ 1024 → wellFormed p ≡ true → length q ≤ 1024 → wellFormed q ≡ true
-    → Opens stream p scratch output a scratch₁ output₁ → Opens stream q scratch output b scratch₂ output₂
-    → Demand3 stream scratch output p q a b scratch₁ output₁ scratch₂ output₂
+pub demand-3 : OfAnyTwoRuns
 demand-3 stream scratch output p q a b scratch₁ output₁ scratch₂ output₂ ps pf qs qf run₁ run₂ =
     let u = alone stream p scratch output a scratch₁ output₁ ps pf run₁ in
     let v = alone stream q scratch output b scratch₂ output₂ qs qf run₂ in

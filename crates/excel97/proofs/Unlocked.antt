@@ -49,7 +49,8 @@ listed f s =
     ∙ sym (getD-mapAt f 0 s i 0 k ∙ ap (λ (n : ℕ). f n (getD s i 0)) (zero-add i)))
 
 -- under RC4: the whole stream deciphered, then headers and clear parts put back
-module _ (s d d₁ d₂ : List ℕ) (keyOf : ℕ → List ℕ) (room : length s ≤ length d) (a : Decrypts 1024 keyOf s d d₁) (b : Written (throughAt s (λ (r : BiffRecord) (o x : ℕ). getD d₁ o 0)) 0 (length s) d₁ d₂) where
+module _ (s d d₁ d₂ : List ℕ) (keyOf : ℕ → List ℕ) (room : length s ≤ length d) (a : Decrypts 1024 keyOf s d d₁)
+    (b : Written (throughAt s (λ (r : BiffRecord) (o x : ℕ). getD d₁ o 0)) 0 (length s) d₁ d₂) where
   first : d₁ ≡ tabulate (decipheredAt 1024 keyOf s) (length s) ++ drop (length s) d
   first =
       let n : min (length s) (length d) ≡ length s = omega arith in
@@ -180,7 +181,8 @@ module _ (body p : List ℕ) (z : typeOf body ≡ 1) where
   rc4-bytes schedule e r o x = rw e (skip (xorByte (arrayOf (ansi p)) r o x) not-xor refl)
 
 -- a schedule by its fields
-fields : (q : Schedule) (k : Kind) (bits : ℕ) (digest : List ℕ) → q .kind ≡ k → q .«key_bits» ≡ bits → q .digest ≡ digest → q ≡ record { kind = k; «key_bits» = bits; digest = digest }
+fields : (q : Schedule) (k : Kind) (bits : ℕ) (digest : List ℕ) → q .kind ≡ k → q .«key_bits» ≡ bits → q .digest ≡ digest
+    → q ≡ record { kind = k; «key_bits» = bits; digest = digest }
 fields q k bits digest a b c = rw (← a, ← b, ← c)
 
 -- the check and the bytes, by the structure that the code cut out and the lock that it read

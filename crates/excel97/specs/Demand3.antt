@@ -7,6 +7,7 @@ use mathlib.Core.List.{List, [], _∷_}
 use mathlib.Core.Option.{some}
 use lib.Bits.{bitXor}
 use lib.ListN.{length, getD, take, drop}
+use Rattle.sensitive.specs.Utf8.{wellFormed}
 use Rattle.binary_office.specs.Walk.{BiffRecord, walk, clearLen}
 use Rattle.file_params.specs.declared.Refusal.{Refusal}
 use Rattle.file_params.specs.Refusal.{number}
@@ -72,3 +73,11 @@ pub record Demand3 (stream scratch output p q : List ℕ) (a b : Answer) (scratc
   -- the last two sentences, of each
   pub plain-first : (x : Report) → a ≡ Opened x → Plain stream p output₁ x
   pub plain-second : (x : Report) → b ≡ Opened x → Plain stream q output₂ x
+
+-- the demand: of any two runs that the contract of `open` allows, on equal copies of what is lent, with passwords of valid UTF-8 within 1,024 bytes
+abbrev pub OfAnyTwoRuns : Type 0
+OfAnyTwoRuns =
+    (stream scratch output p q : List ℕ) (a b : Answer) (scratch₁ output₁ scratch₂ output₂ : List ℕ)
+    → length p ≤ 1024 → wellFormed p ≡ true → length q ≤ 1024 → wellFormed q ≡ true
+    → Opens stream p scratch output a scratch₁ output₁ → Opens stream q scratch output b scratch₂ output₂
+    → Demand3 stream scratch output p q a b scratch₁ output₁ scratch₂ output₂

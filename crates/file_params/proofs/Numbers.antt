@@ -1,7 +1,7 @@
--- The numbers of the questions: each group's by computing, and of all of them that they never fall, since the lists that the choices of `questions` leave
--- are few, and a test over each is computed.
+-- The numbers of the questions: each group's by computing, and all of them by the choices of `questions`, which are few. A test over each of the lists that
+-- they leave is computed, and says that the numbers never fall.
 -- Assumes nothing.
-use mathlib.Core.Path.{_≡_, refl}
+use mathlib.Core.Path.{_≡_, refl, ap, _∙_}
 use mathlib.Core.Bool.{Bool, true, false, _&&_}
 use mathlib.Core.List.{List, [], _∷_, _++_}
 use Prim.Native.Nat.{ℕ, zero, suc, _≤_, _<_}
@@ -12,20 +12,7 @@ use lib.ListN.{length, getD}
 use Rattle.laws.specs.Choice.{pick}
 use Rattle.file_params.specs.declared.Refusal.the-variants.{WrongPassword}
 use Rattle.file_params.specs.Questions.{Question, ask, only, lent, book, encryptionType, version, office97, cryptoApi, rc4, lock, questions, filepassBody, structureOf, typeOf, isOffice97, isCryptoApi}
-use Rattle.file_params.specs.Numbers.{numbers, Numbered, Rising}
-
-pub numbered : Numbered
-unfolding lent book encryptionType version office97 cryptoApi
-numbered =
-    record {
-      of-lent = λ password stream scratch output. refl;
-      of-book = λ stream. refl;
-      of-type = λ body. refl;
-      of-version = λ structure. refl;
-      of-office97 = λ structure. refl;
-      of-cryptoApi = λ structure. refl;
-      of-check = refl;
-    }
+use Rattle.file_params.specs.Numbers.{numbers, expected, Numbered, Rising}
 
 -- a test that a list never falls, from a number on
 abbrev risingFrom : ℕ → List ℕ → Bool
@@ -54,9 +41,12 @@ never-falls m (n ∷ ns) e (suc i) zero h k = omega arith
 never-falls m (n ∷ ns) e (suc i) (suc j) h k = never-falls n ns (both (leb m n) (risingFrom n ns) e .1) i j (omega arith) (omega arith)
 
 -- the choices of `questions`: whether the type is 1, and which family the version names
-by-choices : (stream password scratch output : List ℕ) (passes : Bool) → risingFrom 0 (numbers (questions stream password scratch output passes)) ≡ true
+as-joined : (stream password scratch output : List ℕ) (passes : Bool)
+    → let body = filepassBody stream in
+    let structure = structureOf body in
+    numbers (questions stream password scratch output passes) ≡ expected (eqb (typeOf body) 1) (isOffice97 structure) (isCryptoApi structure)
 unfolding questions lent book lock encryptionType only pick rc4 version office97 cryptoApi
-by-choices stream password scratch output passes = go (eqb (typeOf body) 1) (isOffice97 structure) (isCryptoApi structure)
+as-joined stream password scratch output passes = go (eqb (typeOf body) 1) (isOffice97 structure) (isCryptoApi structure)
   where
     body : List ℕ
     body = filepassBody stream
@@ -68,16 +58,41 @@ by-choices stream password scratch output passes = go (eqb (typeOf body) 1) (isO
     families u v = version structure ++ (only u (office97 structure) ++ only v (cryptoApi structure))
 
     go : (t u v : Bool)
-        → risingFrom 0
-        (numbers
+        → numbers
         (lent password (length stream) (length scratch) (length output)
-        ++ (book stream ++ ((encryptionType body ++ only t (families u v)) ++ (ask passes WrongPassword ∷ [])))))
-        ≡ true
+        ++ (book stream ++ ((encryptionType body ++ only t (families u v)) ++ (ask passes WrongPassword ∷ []))))
+        ≡ expected t u v
     go false u v = refl
     go true true true = refl
     go true true false = refl
     go true false true = refl
     go true false false = refl
 
+pub numbered : Numbered
+unfolding lent book encryptionType version office97 cryptoApi
+numbered =
+    record {
+      of-lent = λ password stream scratch output. refl;
+      of-book = λ stream. refl;
+      of-type = λ body. refl;
+      of-version = λ structure. refl;
+      of-office97 = λ structure. refl;
+      of-cryptoApi = λ structure. refl;
+      of-all = as-joined;
+    }
+
+rising-expected : (t u v : Bool) → risingFrom 0 (expected t u v) ≡ true
+unfolding pick
+rising-expected false u v = refl
+rising-expected true true true = refl
+rising-expected true true false = refl
+rising-expected true false true = refl
+rising-expected true false false = refl
+
 pub rising : Rising
-rising = record { rises = λ stream password scratch output passes. never-falls 0 (numbers (questions stream password scratch output passes)) (by-choices stream password scratch output passes) }
+rising =
+    record {
+      rises = λ stream password scratch output passes.
+          never-falls 0 (numbers (questions stream password scratch output passes))
+          (ap (risingFrom 0) (as-joined stream password scratch output passes) ∙ rising-expected _ _ _);
+    }

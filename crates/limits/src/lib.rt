@@ -1,6 +1,7 @@
 // The bounds of the Rust source's limits.rs that the Excel stream part uses, under its names; its range
-// RC4_KEY_BITS is two numbers here. Two more are document 01's own: PASSWORD_MAX_LEN and SCRATCH_LEN. The tests of a
-// header's size and of a key size stand beside their bounds, so that a wrong bound is refused here.
+// RC4_KEY_BITS is two numbers here, and RC4_ENCRYPTION_HEADER_SIZE_MIN is rc4_cryptoapi.rs's HEADER_FIXED_LEN. Two more
+// are document 01's own: PASSWORD_MAX_LEN and SCRATCH_LEN. The tests of a header's size and of a key size stand beside
+// their bounds, so that a wrong bound is refused here.
 ghost use mathlib.Core.Path.{_≡_};
 ghost use mathlib.Core.Bool.{_&&_, _||_};
 ghost use Prim.Native.Nat.{_%_};

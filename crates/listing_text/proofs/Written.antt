@@ -16,7 +16,8 @@ use Rattle.listing_text.specs.Text.{decimal, line, lines, unreadable, he
 
 sets-join : (d : List ℕ) (n : ℕ) (xs bs : List ℕ) → sets (sets d n xs) (n + length xs) bs ≡ sets d n (xs ++ bs)
 sets-join d n [] bs = ap (λ (k : ℕ). sets d k bs) (add-zero n)
-sets-join d n (a ∷ xs) bs = ap (λ (k : ℕ). sets (sets (set d n a) (suc n) xs) k bs) (add-suc n (length xs) ∙ sym (suc-add n (length xs))) ∙ sets-join (set d n a) (suc n) xs bs
+sets-join d n (a ∷ xs) bs = ap (λ (k : ℕ). sets (sets (set d n a) (suc n) xs) k bs) (add-suc n (length xs) ∙ sym (suc-add n (length xs)))
+    ∙ sets-join (set d n a) (suc n) xs bs
 
 pub puts-none : (n : ℕ) (d : List ℕ) → Puts [] n d n d
 puts-none n d = record { behind = sym (add-zero n); written = refl }

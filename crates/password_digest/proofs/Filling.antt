@@ -53,7 +53,8 @@ module _ (s block : List ℕ) (at skip n : ℕ) where
   goes-all t m w = w .parts ∙ ap (λ (l : List ℕ). take n block ++ l) (t (w .rest) (w .comes)) ∙ append-nil (take n block)
 
 -- the hash of a block and what follows it
-block-off : {S : Type 0} (f : S → List ℕ → S) (order : ℕ → List ℕ) (wide : (n : ℕ) → length (order n) ≡ 8) (total : ℕ) (h : S) (m block rest : List ℕ) → length block ≡ 64 → m ≡ block ++ rest
+block-off : {S : Type 0} (f : S → List ℕ → S) (order : ℕ → List ℕ) (wide : (n : ℕ) → length (order n) ≡ 8) (total : ℕ) (h : S) (m block rest : List ℕ)
+    → length block ≡ 64 → m ≡ block ++ rest
     → hashEnd f order h m total ≡ hashEnd f order (blocks f h block 1) rest total
 unfolding hashEnd
 block-off f order wide total h m block rest l e = rw e (hash-on f (λ _. order (8 * total)) (λ _. wide (8 * total)) h block rest 1 l)

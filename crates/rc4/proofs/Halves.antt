@@ -23,7 +23,8 @@ unfolding after
 turn-none t i j h = rw (add-zero i, mod-eq-of-lt h)
 
 -- one turn of a keystream that started at the index i: m and j′ are the two indices of the turn
-module _ (k : Keystream) (t : List ℕ) (i j n m j′ : ℕ) (e : record { table = t; i = (i + n) % 256; j = j } ≡ after k n) (gm : m ≡ (i + 1 + n) % 256) (gj : j′ ≡ (j + getD t m 0) % 256) where
+module _ (k : Keystream) (t : List ℕ) (i j n m j′ : ℕ) (e : record { table = t; i = (i + n) % 256; j = j } ≡ after k n) (gm : m ≡ (i + 1 + n) % 256)
+    (gj : j′ ≡ (j + getD t m 0) % 256) where
   next-index : m ≡ ((i + n) % 256 + 1) % 256
   next-index = omega arith
 

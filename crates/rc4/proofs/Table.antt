@@ -49,7 +49,8 @@ pub after-none : (k : Keystream) → k ≡ after k 0
 unfolding after
 after-none k = refl
 
-module _ (k : Keystream) (t : List ℕ) (i j n i′ j′ : ℕ) (e : record { table = t; i = i; j = j } ≡ after k n) (gi : i′ ≡ (i + 1) % 256) (gj : j′ ≡ (j + getD t i′ 0) % 256) where
+module _ (k : Keystream) (t : List ℕ) (i j n i′ j′ : ℕ) (e : record { table = t; i = i; j = j } ≡ after k n) (gi : i′ ≡ (i + 1) % 256)
+    (gj : j′ ≡ (j + getD t i′ 0) % 256) where
   pub after-more : record { table = set (set t i′ (getD t j′ 0)) j′ (getD t i′ 0); i = i′; j = j′ } ≡ after k (n + 1)
   unfolding after next swap
   after-more = rw (add-one n, ← e, gj, gi)

@@ -1,5 +1,5 @@
 -- Rotations of words of w bits. A word is a high part above j bits and a low part of j bits; a rotation changes their places,
--- so that each rotation is a sum, a right one undoes a left one, and a shift by w - n may be taken modulo w.
+-- so that each rotation is a sum, each undoes the other, and a shift by w - n may be taken modulo w.
 -- Assumes nothing.
 use mathlib.Core.Path.{_≡_, sym, ap, subst}
 use Prim.Native.Nat.{ℕ, zero, suc, _+_, _-_, _*_, _/_, _%_, _^_, _<_}

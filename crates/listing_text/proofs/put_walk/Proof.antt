@@ -27,16 +27,16 @@ same-length c = c .before .before .before .loop .inv .2
 returns : tie.Need-returns Inv-loop μ-loop
 returns c =
     let asked = c .before .before in
-    let turn = c .before .before .before in
-    let start = c .before .before .before .before .before .before in
+    let turn = asked .before in
+    let start = turn .before .before .before in
     listed-end (start .args .stream .now) (turn .loop .at) (sym (asked .record-at .ensures .0) ∙ c .enum-told .given .1) (turn .loop .inv .3)
 
 put-fault-requires : tie.Need-put-fault-requires Inv-loop μ-loop
 put-fault-requires c κs =
     let place = c .before .before in
-    let asked = c .before .before .before .before in
-    let turn = c .before .before .before .before .before in
-    let start = c .before .before .before .before .before .before .before .before in
+    let asked = place .before .before in
+    let turn = asked .before in
+    let start = turn .before .before .before in
     let h = fault-place (start .args .stream .now) (turn .loop .at) _ (sym (asked .record-at .ensures .0) ∙ place .step .given .1) in
     omega arith
 
@@ -49,28 +49,28 @@ same-length-2 c =
 returns-2 : tie.Need-returns-2 Inv-loop μ-loop
 returns-2 c =
     let wrote = c .before .before in
-    let place = c .before .before .before .before .before in
-    let asked = c .before .before .before .before .before .before .before in
-    let turn = c .before .before .before .before .before .before .before .before in
-    let start = c .before .before .before .before .before .before .before .before .before .before .before in
+    let place = wrote .before .before .before in
+    let asked = place .before .before in
+    let turn = asked .before in
+    let start = turn .before .before .before in
     let e = sym (asked .record-at .ensures .0) ∙ place .step .given .1 in
     listed-fault (start .args .stream .now) (turn .loop .at) _ e (turn .loop .inv .3) (wrote .put-fault .ensures)
 
 put-line-requires : tie.Need-put-line-requires Inv-loop μ-loop
 put-line-requires c κs =
     let line = c .before .before in
-    let asked = c .before .before .before .before in
-    let turn = c .before .before .before .before .before in
-    let start = c .before .before .before .before .before .before .before .before in
+    let asked = line .before .before in
+    let turn = asked .before in
+    let start = turn .before .before .before in
     let h = record-within (start .args .stream .now) (turn .loop .at) _ _ (sym (asked .record-at .ensures .0) ∙ line .step2 .given .1) in
     omega arith
 
 loop-less : tie.Need-loop-less Inv-loop μ-loop
 loop-less c =
     let line = c .before .before .before .before .before in
-    let asked = c .before .before .before .before .before .before .before in
-    let turn = c .before .before .before .before .before .before .before .before in
-    let start = c .before .before .before .before .before .before .before .before .before .before .before in
+    let asked = line .before .before in
+    let turn = asked .before in
+    let start = turn .before .before .before in
     let e = sym (asked .record-at .ensures .0) ∙ line .step2 .given .1 in
     let h = record-within (start .args .stream .now) (turn .loop .at) _ _ e in
     let b = asked .record-at .ensures .1 ∙ ap (nextOf (turn .loop .at)) e in
@@ -79,10 +79,10 @@ loop-less c =
 loop-again : tie.Need-loop-again Inv-loop μ-loop
 loop-again c =
     let wrote = c .before .before in
-    let line = c .before .before .before .before .before in
-    let asked = c .before .before .before .before .before .before .before in
-    let turn = c .before .before .before .before .before .before .before .before in
-    let start = c .before .before .before .before .before .before .before .before .before .before .before in
+    let line = wrote .before .before .before in
+    let asked = line .before .before in
+    let turn = asked .before in
+    let start = turn .before .before .before in
     let e = sym (asked .record-at .ensures .0) ∙ line .step2 .given .1 in
     let h = record-within (start .args .stream .now) (turn .loop .at) _ _ e in
     let b = asked .record-at .ensures .1 ∙ ap (nextOf (turn .loop .at)) e in (

@@ -16,7 +16,8 @@ use Rattle.password_digest.proofs.fill.Tie as tie
 
 abbrev Inv-loop : tie.InvT-loop
 Inv-loop text at skip block₀ n at₀ skip₀ n₀ block at' skip' n' =
-    (n' ≤ 64) × (skip' < 4) × (length block ≡ 64) × (left text at' skip' + n' ≤ left text at skip + n) × ((m : List ℕ) → Goes text block₀ at skip n m → Goes text block at' skip' n' m)
+    (n' ≤ 64) × (skip' < 4) × (length block ≡ 64) × (left text at' skip' + n' ≤ left text at skip + n)
+    × ((m : List ℕ) → Goes text block₀ at skip n m → Goes text block at' skip' n' m)
 
 abbrev μ-loop : tie.MeasureT-loop
 μ-loop text at skip block₀ n at₀ skip₀ n₀ block at' skip' n' = 64 - n'

@@ -11,7 +11,10 @@ use Rattle.password_digest.proofs.next_byte.Statement.{statement}
 use Rattle.password_digest.proofs.next_byte.Tie as tie
 
 -- the character that was read
-found : (c : tie.After-utf16le) → charAt (c .before .before .before .before .before .before .args .text .now) (c .before .before .before .before .before .before .args .at) ≡ Point (c .before .before .point .given .0 .0) (c .before .before .point .given .0 .1 .0)
+found : (c : tie.After-utf16le)
+    → let point = c .before .before .point .given .0 in
+    let start = c .before .before .before .before .before .before in
+    charAt (start .args .text .now) (start .args .at) ≡ Point (point .0) (point .1 .0)
 found c =
     let at-point = c .before .before in
     let at-char-at = at-point .before .before in
@@ -19,17 +22,19 @@ found c =
 
 returns : tie.Need-returns
 returns c =
-    let d = c .before .before .before in
-    let a = d .before .before .before .before .before .before .args in
-    stays (a .text .now) (a .at) (a .skip) _ _ (found d) (d .utf16le .result) (spells _ _ (d .utf16le .ensures))
-    (d .before .before .before .before .before .before .pre) (omega arith)
+    let at-utf16le = c .before .before .before in
+    let start = at-utf16le .before .before .before .before .before .before in
+    let a = start .args in
+    stays (a .text .now) (a .at) (a .skip) _ _ (found at-utf16le) (at-utf16le .utf16le .result)
+    (spells _ _ (at-utf16le .utf16le .ensures)) (start .pre) (omega arith)
 
 returns-2 : tie.Need-returns-2
 returns-2 c =
-    let d = c .before .before .before in
-    let a = d .before .before .before .before .before .before .args in
-    moves (a .text .now) (a .at) (a .skip) _ _ (found d) (d .utf16le .result) (spells _ _ (d .utf16le .ensures))
-    (d .before .before .before .before .before .before .pre) (omega arith)
+    let at-utf16le = c .before .before .before in
+    let start = at-utf16le .before .before .before .before .before .before in
+    let a = start .args in
+    moves (a .text .now) (a .at) (a .skip) _ _ (found at-utf16le) (at-utf16le .utf16le .result)
+    (spells _ _ (at-utf16le .utf16le .ensures)) (start .pre) (omega arith)
 
 returns-3 : tie.Need-returns-3
 returns-3 c = breaks _ _ _ (sym (c .before .before .char-at .ensures) ∙ c .enum-told .given .1)

@@ -17,7 +17,8 @@ use Rattle.password_digest.proofs.sha1_password.Statement.{statement}
 use Rattle.password_digest.proofs.sha1_password.Tie as tie
 
 -- a total modulo 2^64 gives the digest
-hashed : (salt e : List ℕ) (len total : ℕ) → length salt ≡ 16 → length e ≡ len → total ≡ (len + 16) % 2 ^ 64 → output (hashEnd compressed be64 start (salt ++ e) total) ≡ sha1 (salt ++ e)
+hashed : (salt e : List ℕ) (len total : ℕ) → length salt ≡ 16 → length e ≡ len → total ≡ (len + 16) % 2 ^ 64
+    → output (hashEnd compressed be64 start (salt ++ e) total) ≡ sha1 (salt ++ e)
 unfolding hashEnd sha1
 hashed salt e len total h k g =
     let n = length (salt ++ e) in

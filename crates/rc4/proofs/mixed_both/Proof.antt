@@ -13,7 +13,8 @@ use Rattle.rc4.proofs.mixed_both.Statement.{statement}
 use Rattle.rc4.proofs.mixed_both.Tie as tie
 
 abbrev Inv-loop : tie.InvT-loop
-Inv-loop key other s₀ t₀ i₀ j₀ v₀ s t i j v = (i ≤ 256) × (length s ≡ 256) × (length t ≡ 256) × (j < 256) × (v < 256) × (record { table = s; j = j } ≡ mixing key i) × (record { table = t; j = v } ≡ mixing other i)
+Inv-loop key other s₀ t₀ i₀ j₀ v₀ s t i j v = (i ≤ 256) × (length s ≡ 256) × (length t ≡ 256) × (j < 256) × (v < 256)
+    × (record { table = s; j = j } ≡ mixing key i) × (record { table = t; j = v } ≡ mixing other i)
 
 abbrev μ-loop : tie.MeasureT-loop
 μ-loop key other s₀ t₀ i₀ j₀ v₀ s t i j v = 256 - i

@@ -20,7 +20,8 @@ some-bytes key e =
     let h = within-from 5 16 (length key) e in
     omega arith
 
-keyed-table : (key t : List ℕ) → within 5 16 (length key) ≡ true → t ≡ mixing key 256 .table → record { ok = true; keystream = record { table = t; i = 0; j = 0 } } ≡ made key
+keyed-table : (key t : List ℕ) → within 5 16 (length key) ≡ true → t ≡ mixing key 256 .table
+    → record { ok = true; keystream = record { table = t; i = 0; j = 0 } } ≡ made key
 keyed-table key t e g =
     ap (λ (u : List ℕ). record { ok = true; keystream = record { table = u; i = 0; j = 0 } }) g ∙ made-keyed key (within-from 5 16 (length key) e)
     (within-to 5 16 (length key) e)

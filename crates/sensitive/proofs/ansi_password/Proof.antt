@@ -57,17 +57,16 @@ module _ (s : List ℕ) where
   refused : {at : ℕ} {ps : List ℕ} → Passed s at ps → ((qs : List ℕ) → (within 1 15 (length (ps ++ qs)) && narrow (ps ++ qs)) ≡ false) → ansi s ≡ none
   refused {ps = ps} w f = passed-all s w bad (λ qs e. good (ps ++ qs) e ∙ left _ _ (f qs))
 
-  finished : (ps : List ℕ) → length ps ≤ 15 → narrow ps ≡ true → points s ≡ some ps → record {
-    bytes = ps ++ replicate
-        (16 - length ps) 0;
-    len = length ps;
-  } ≡ ansiOf (ansi s)
+  finished : (ps : List ℕ) → length ps ≤ 15 → narrow ps ≡ true → points s ≡ some ps
+      → record { bytes = ps ++ replicate (16 - length ps) 0; len = length ps } ≡ ansiOf (ansi s)
   finished [] h e f = sym (ap ansiOf (good [] f ∙ left _ _ refl))
   finished (p ∷ ps) h e f = sym (ap ansiOf (good (p ∷ ps) f ∙ taken _ _ (rw (within-yes 1 15 (suc (length ps)) (omega arith) h) e)))
 
 passed : (c : tie.After-known-told Inv-loop μ-loop)
-    → Passed (c .before .before .before .before .before .before .args .text .now) (c .before .point .given .0 .1 .0)
-    (c .before .before .before .before .loop .inv .0 ++ (c .before .point .given .0 .0 ∷ []))
+    → let read = c .before .point .given .0 in
+    let at-loop = c .before .before .before .before in
+    let start = at-loop .before .before in
+    Passed (start .args .text .now) (read .1 .0) (at-loop .loop .inv .0 ++ (read .0 ∷ []))
 passed c =
     let at-char-at = c .before .before .before in
     let at-loop = at-char-at .before in

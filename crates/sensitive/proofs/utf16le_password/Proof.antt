@@ -49,7 +49,10 @@ returns c =
     let b = sized (encoded (a .text .now)) _ (sym (at-utf16le-len .utf16le-len .ensures) ∙ at-n .n .given .1) in
     rw (← (b .2), short (encoded (a .text .now)) (a .out .now) (b .0) (b .1) (rw (b .2) (c .if1 .taken))) (refl, refl)
 
-fits : (c : tie.After-put-text-arg) → c .before .before .before .n .given .0 .0 ≡ length (take (c .before .before .before .n .given .0 .0) (c .before .before .before .before .before .before .before .before .args .out .now))
+fits : (c : tie.After-put-text-arg)
+    → let at-n = c .before .before .before in
+    let start = at-n .before .before .before .before .before in
+    at-n .n .given .0 .0 ≡ length (take (at-n .n .given .0 .0) (start .args .out .now))
 fits c =
     let at-n = c .before .before .before in
     let start = at-n .before .before .before .before .before in

@@ -15,7 +15,8 @@ use Rattle.xor_obfuscation.proofs.piece.Statement.{statement}
 use Rattle.xor_obfuscation.proofs.piece.Tie as tie
 
 abbrev Inv-loop : tie.InvT-loop
-Inv-loop twice start src at out₀ i₀ out i = (i ≤ 16) × (length out ≡ 16) × (take i out ≡ tabulate (λ (n : ℕ). rotr 8 5 (bitXor (getD src (at + n) 0) (getD twice (start + n) 0))) i)
+Inv-loop twice start src at out₀ i₀ out i = (i ≤ 16) × (length out ≡ 16)
+    × (take i out ≡ tabulate (λ (n : ℕ). rotr 8 5 (bitXor (getD src (at + n) 0) (getD twice (start + n) 0))) i)
 
 abbrev μ-loop : tie.MeasureT-loop
 μ-loop twice start src at out₀ i₀ out i = 16 - i

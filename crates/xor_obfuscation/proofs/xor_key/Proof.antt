@@ -11,7 +11,8 @@ use Rattle.xor_obfuscation.proofs.xor_key.Statement.{statement}
 use Rattle.xor_obfuscation.proofs.xor_key.Tie as tie
 
 abbrev Inv-loop : tie.InvT-loop
-Inv-loop password len key₀ element₀ n₀ key element n = (1 ≤ n) × (n ≤ length password) × (length password ≤ 15) × (element + (length password - n) * 7 ≡ 104) × (key ≡ keyFrom key₀ (drop n password))
+Inv-loop password len key₀ element₀ n₀ key element n = (1 ≤ n) × (n ≤ length password) × (length password ≤ 15) × (element + (length password - n) * 7 ≡ 104)
+    × (key ≡ keyFrom key₀ (drop n password))
 
 abbrev μ-loop : tie.MeasureT-loop
 μ-loop password len key₀ element₀ n₀ key element n = n

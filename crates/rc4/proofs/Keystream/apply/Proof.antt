@@ -18,7 +18,8 @@ use Rattle.rc4.proofs.Keystream.apply.Statement.{statement}
 use Rattle.rc4.proofs.Keystream.apply.Tie as tie
 
 abbrev Inv-loop : tie.InvT-loop
-Inv-loop src dst₀ n t₀ i₀ j₀ k₀ dst t i j k = (k ≤ n) × (length t ≡ 256) × (i < 256) × (j < 256) × (record { table = t; i = i; j = j } ≡ after (record { table = t₀; i = i₀; j = j₀ }) k) × Written (applied (record { table = t₀; i = i₀; j = j₀ }) src) 0 k dst₀ dst
+Inv-loop src dst₀ n t₀ i₀ j₀ k₀ dst t i j k = (k ≤ n) × (length t ≡ 256) × (i < 256) × (j < 256)
+    × (record { table = t; i = i; j = j } ≡ after (record { table = t₀; i = i₀; j = j₀ }) k) × Written (applied (record { table = t₀; i = i₀; j = j₀ }) src) 0 k dst₀ dst
 
 abbrev μ-loop : tie.MeasureT-loop
 μ-loop src dst₀ n t₀ i₀ j₀ k₀ dst t i j k = n - k
