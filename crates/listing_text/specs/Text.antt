@@ -30,7 +30,7 @@ hexDigit n = pick (ltb n 10) (48 + n) (87 + n)
 unfoldable pub hex4 : ℕ → List ℕ
 hex4 n = hexDigit (n / 4096 % 16) ∷ hexDigit (n / 256 % 16) ∷ hexDigit (n / 16 % 16) ∷ hexDigit (n % 16) ∷ []
 
--- offset, id, length and clear bytes, parted by tabs
+-- offset, id, length and clear bytes, separated by tabs
 unfoldable pub line : BiffRecord → List ℕ
 line r = decimal (r .at) ++ (9 ∷ []) ++ hex4 (r .id) ++ (9 ∷ []) ++ decimal (r .len) ++ (9 ∷ []) ++ decimal (clearLen (r .id) (r .len)) ++ (10 ∷ [])
 
