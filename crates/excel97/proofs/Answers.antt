@@ -18,8 +18,8 @@ use Rattle.binary_office.specs.Walk.{walk}
 use Rattle.file_params.specs.declared.Refusal.{Refusal}
 use Rattle.file_params.specs.declared.Refusal.the-variants.{WrongPassword}
 use Rattle.file_params.specs.Refusal.{number}
-use Rattle.file_params.specs.Questions.{Question, ask, asked, only, lent, book, lock, encryptionType, version, office97, cryptoApi, rc4, questions, filepassBody, structureOf, typeOf, isOffice97, isCryptoApi, clean}
-use Rattle.file_params.proofs.Laws.{asked-on, asked-stop}
+use Rattle.file_params.specs.Questions.{Question, ask, asked, only, lent, inOrder, locked, book, lock, encryptionType, version, office97, cryptoApi, rc4, questions, filepassBody, structureOf, typeOf, isOffice97, isCryptoApi, clean}
+use Rattle.file_params.proofs.Laws.{asked-on, asked-stop, none-of-both, first-yes}
 use Rattle.excel97.specs.declared.Report.{Report}
 use Rattle.excel97.specs.declared.Answer.{Answer}
 use Rattle.excel97.specs.declared.Answer.the-variants.{Opened, Refused}
@@ -108,7 +108,7 @@ abbrev before27 : Refusal → Bool
 before27 r = leb (number r) 26
 
 earlier-before27 : (stream scratch output : List ℕ) → every before27 (earlier stream scratch output) ≡ true
-unfolding lent book encryptionType version office97 cryptoApi
+unfolding lent book inOrder locked encryptionType version office97 cryptoApi
 earlier-before27 stream scratch output =
     joined before27 (lent [] (length stream) (length scratch) (length output)) (book stream ++ lock (filepassBody stream)) refl
     (joined before27 (book stream) (lock (filepassBody stream)) refl
@@ -122,7 +122,7 @@ abbrev past5 : Refusal → Bool
 past5 r = leb 6 (number r)
 
 pub later-number : (stream : List ℕ) (t : Bool) (r : Refusal) → asked (book stream ++ (lock (filepassBody stream) ++ (ask t WrongPassword ∷ []))) ≡ some r → 6 ≤ number r
-unfolding book encryptionType version office97 cryptoApi
+unfolding book inOrder locked encryptionType version office97 cryptoApi
 later-number stream t r e =
     leb-true 6 (number r)
     (given-passes past5 (book stream ++ (lock (filepassBody stream) ++ (ask t WrongPassword ∷ []))) r
@@ -187,23 +187,8 @@ none-earlier none t e = refl
 none-earlier (some q) t e = e
 
 -- a stream that is opened was walked to its end
-pub none-of-both : (ps qs : List Question) → asked (ps ++ qs) ≡ none → (asked ps ≡ none) × (asked qs ≡ none)
-none-of-both ps qs e = go (asked ps) refl
-  where
-    go : (o : Option Refusal) → o ≡ asked ps → (asked ps ≡ none) × (asked qs ≡ none)
-    go none g = (sym g, sym (asked-on ps qs g) ∙ e)
-    go (some r) g = let h = asked-stop ps qs r g in (cc, cc)
-
-pub first-yes : (q : Question) (qs : List Question) → asked (q ∷ qs) ≡ none → q .yes ≡ true
-unfolding asked pick
-first-yes q qs e = go (q .yes) e
-  where
-    go : (t : Bool) → pick t (asked qs) (some (q .no)) ≡ none → t ≡ true
-    go true e = refl
-    go false e = cc
-
 pub walk-clean : (stream scratch output : List ℕ) → asked (earlier stream scratch output) ≡ none → walk stream .ends ≡ end.Clean
-unfolding book
+unfolding book inOrder
 walk-clean stream scratch output e =
     let behind-lent = none-of-both (lent [] (length stream) (length scratch) (length output)) (book stream ++ lock (filepassBody stream)) e .1 in
     by-end (walk stream .ends) (first-yes _ (drop 1 (book stream)) (none-of-both (book stream) (lock (filepassBody stream)) behind-lent .0))

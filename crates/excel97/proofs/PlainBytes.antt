@@ -18,14 +18,15 @@ use Rattle.laws.proofs.Offsets.{length-mapAt, getD-mapAt}
 use Rattle.sensitive.specs.Ansi.{ansi}
 use Rattle.binary_office.specs.declared.WalkEnd.the-variants as end
 use Rattle.binary_office.specs.Walk.{BiffRecord, walkAt, walk, clearLen}
+use Rattle.binary_office.proofs.Along.{records-on, records-end, records-fault, along}
 use Rattle.binary_office.proofs.Walks.{record-within}
 use Rattle.file_params.specs.Questions.{filepass, filepassBody, structureOf, typeOf}
 use Rattle.excel97.specs.declared.Lock.the-variants.{Xor}
 use Rattle.excel97.specs.declared.Report.{Report}
 use Rattle.excel97.specs.Open.{arrayOf, xorByte, rc4Byte, plainByte, recordAt, inRecord, blanked, plainAt, plain, xorReport, rc4Report, report}
 use Rattle.excel97.specs.Demand3.{Plain}
-use Rattle.excel97.proofs.Records.{records-on, records-end, records-fault, Reached, reached-none, reached-on, reached-fault, reached-end, record-here}
-use Rattle.excel97.proofs.SameBounds.{along, same-bounds}
+use Rattle.excel97.proofs.Records.{Reached, reached-none, reached-on, reached-fault, reached-end, record-here}
+use Rattle.excel97.proofs.SameBounds.{same-bounds}
 use Rattle.excel97.proofs.Through.{own-byte, other-byte}
 
 -- an offset that a record covers lies in the stream
@@ -125,7 +126,7 @@ module _ (s p : List ℕ) where
 
     pub plain-left : Plain s p output′ x
     plain-left =
-        let b = same-bounds s (plain s p) length-plain clean (λ r o e h g. kept-byte r o e g h) in
+        let b = same-bounds s (plain s p) length-plain clean (λ r o e h g. kept-byte r o e g h) zeroed-byte in
         record {
           bounds = rw at-start (b .0);
           ends = rw at-start (b .1);

@@ -2,46 +2,22 @@
 -- Assumes nothing.
 use mathlib.Core.Path.{_≡_, refl, sym, ap, _∙_}
 use mathlib.Core.Bool.{Bool, true, false}
-use mathlib.Core.List.{List, [], _∷_}
-use mathlib.Core.Option.{Option, none, some}
+use mathlib.Core.List.{List, []}
+use mathlib.Core.Option.{none, some}
 use Prim.Native.Nat.{ℕ, _+_, _≤_, _<_, min}
 use native.Mathlib.Omega.{arith}
-use borrow.Author.Tests.{eq-eqb, ne-eqb, le-leb, lt-leb, lt-ltb, le-ltb}
+use borrow.Author.Tests.{eq-eqb, ne-eqb, le-leb, lt-ltb, le-ltb}
 use lib.Dec.{eqb}
 use lib.ListN.{length}
 use Rattle.laws.specs.Choice.{pick}
-use Rattle.laws.proofs.Choice.{taken, left, either}
-use Rattle.binary_office.specs.declared.Field16.{Field16}
-use Rattle.binary_office.specs.declared.Field16.the-variants as two
-use Rattle.binary_office.specs.declared.Step.{Step}
+use Rattle.laws.proofs.Choice.{taken, left}
 use Rattle.binary_office.specs.declared.Step.the-variants as step
 use Rattle.binary_office.specs.declared.WalkEnd.the-variants as end
 use Rattle.binary_office.specs.Walk.{BiffRecord, Walk, stepAt, walkAt, walk, neverEncrypted, clearLen}
-use Rattle.binary_office.specs.Fields.{le16At}
-use Rattle.binary_office.proofs.Headers.{step-no-id, step-no-len, step-record, step-past}
-use Rattle.binary_office.proofs.Walks.{record-within, walk-end, walk-fault, walk-record}
-use Rattle.file_params.specs.Questions.{startsBof, filepass, otherId}
+use Rattle.binary_office.proofs.Along.{records-on, ends-on, end-past}
+use Rattle.binary_office.proofs.Walks.{record-within, walk-fault}
+use Rattle.file_params.specs.Questions.{filepass, otherId}
 use Rattle.excel97.specs.Open.{recordAt, covers}
-
--- the walk's end is the end of the stream
-end-past : (s : List ℕ) (at : ℕ) → stepAt s at ≡ step.End → length s ≤ at
-end-past s at e = either (length s) at (λ h. h) (λ h. by-id h (le16At s at) refl)
-  where
-    never : (w : Step) → w ≡ stepAt s at → (w ≡ step.End → _≡_ {A = ℕ} 0 1) → length s ≤ at
-    never w g f = let z : _≡_ {A = ℕ} 0 1 = f (g ∙ e) in absurd (no z)
-      where
-        no : _≡_ {A = ℕ} 0 1 → ⊥
-        no z = omega arith
-
-    by-len : at < length s → (i : ℕ) → two.Value i ≡ le16At s at → (w : Field16) → w ≡ le16At s (at + 2) → length s ≤ at
-    by-len h i g two.Short k = never (step.Fault at) (step-no-len s at h i g k) (λ q. cc)
-    by-len h i g (two.Value l) k =
-        either (at + 4 + l) (length s) (λ m. never (step.Record i l) (step-record s at h i l g k m) (λ q. cc))
-        (λ m. never (step.Fault at) (step-past s at h i l g k m) (λ q. cc))
-
-    by-id : at < length s → (w : Field16) → w ≡ le16At s at → length s ≤ at
-    by-id h two.Short g = never (step.Fault at) (step-no-id s at h g) (λ q. cc)
-    by-id h (two.Value i) g = by-len h i g (le16At s (at + 2)) refl
 
 module _ (s : List ℕ) where
   module _ (at id len : ℕ) (e : stepAt s at ≡ step.Record id len) where
@@ -49,43 +25,27 @@ module _ (s : List ℕ) where
     abbrev here : BiffRecord
     here = record { at = at; id = id; len = len }
 
-    pub records-on : walkAt s at .records ≡ here ∷ walkAt s (at + 4 + len) .records
-    records-on = ap (λ (w : Walk). w .records) (walk-record s at id len e)
-
-    pub ends-on : walkAt s at .ends ≡ walkAt s (at + 4 + len) .ends
-    ends-on = ap (λ (w : Walk). w .ends) (walk-record s at id len e)
-
-    pub starts : startsBof (walkAt s at .records) ≡ eqb id 0x0809
-    starts = ap startsBof records-on
-
     pub filepass-here : id ≡ 0x002F → filepass (walkAt s at .records) ≡ some here
     unfolding filepass
-    filepass-here g = ap filepass records-on ∙ taken (some here) (filepass (walkAt s (at + 4 + len) .records)) (eq-eqb id 0x002F g)
+    filepass-here g = ap filepass (records-on s at id len e) ∙ taken (some here) (filepass (walkAt s (at + 4 + len) .records)) (eq-eqb id 0x002F g)
 
     pub filepass-on : (id ≡ 0x002F → ⊥) → filepass (walkAt s at .records) ≡ filepass (walkAt s (at + 4 + len) .records)
     unfolding filepass
-    filepass-on g = ap filepass records-on ∙ left (some here) (filepass (walkAt s (at + 4 + len) .records)) (ne-eqb id 0x002F g)
+    filepass-on g = ap filepass (records-on s at id len e) ∙ left (some here) (filepass (walkAt s (at + 4 + len) .records)) (ne-eqb id 0x002F g)
 
     pub other-stop : id ≡ 0x002F → otherId (walkAt s at .records) ≡ none
     unfolding otherId
-    other-stop g = ap otherId records-on ∙ taken none (pick (neverEncrypted id) (otherId (walkAt s (at + 4 + len) .records)) (some id)) (eq-eqb id 0x002F g)
+    other-stop g = ap otherId (records-on s at id len e) ∙ taken none (pick (neverEncrypted id) (otherId (walkAt s (at + 4 + len) .records)) (some id)) (eq-eqb id 0x002F g)
 
     past : (id ≡ 0x002F → ⊥) → otherId (walkAt s at .records) ≡ pick (neverEncrypted id) (otherId (walkAt s (at + 4 + len) .records)) (some id)
     unfolding otherId
-    past g = ap otherId records-on ∙ left none (pick (neverEncrypted id) (otherId (walkAt s (at + 4 + len) .records)) (some id)) (ne-eqb id 0x002F g)
+    past g = ap otherId (records-on s at id len e) ∙ left none (pick (neverEncrypted id) (otherId (walkAt s (at + 4 + len) .records)) (some id)) (ne-eqb id 0x002F g)
 
     pub other-here : (id ≡ 0x002F → ⊥) → neverEncrypted id ≡ false → otherId (walkAt s at .records) ≡ some id
     other-here g h = past g ∙ left (otherId (walkAt s (at + 4 + len) .records)) (some id) h
 
     pub other-on : (id ≡ 0x002F → ⊥) → neverEncrypted id ≡ true → otherId (walkAt s at .records) ≡ otherId (walkAt s (at + 4 + len) .records)
     other-on g h = past g ∙ taken (otherId (walkAt s (at + 4 + len) .records)) (some id) h
-
-  -- no record is left, at the end or at a fault
-  pub records-end : (at : ℕ) → stepAt s at ≡ step.End → walkAt s at .records ≡ []
-  records-end at e = ap (λ (w : Walk). w .records) (walk-end s at e)
-
-  pub records-fault : (at p : ℕ) → stepAt s at ≡ step.Fault p → walkAt s at .records ≡ []
-  records-fault at p e = ap (λ (w : Walk). w .records) (walk-fault s at p e)
 
 pub no-filepass : (rs : List BiffRecord) → rs ≡ [] → filepass rs ≡ none
 unfolding filepass
@@ -94,9 +54,6 @@ no-filepass rs e = rw e
 pub no-other : (rs : List BiffRecord) → rs ≡ [] → otherId rs ≡ none
 unfolding otherId
 no-other rs e = rw e
-
-pub not-bof : (rs : List BiffRecord) → rs ≡ [] → startsBof rs ≡ false
-not-bof rs e = rw e
 
 -- a record covers its header and body
 covers-yes : (r : BiffRecord) (o : ℕ) → r .at ≤ o → o < r .at + 4 + r .len → covers r o ≡ true

@@ -1,71 +1,73 @@
--- The walk of the plain stream has the record bounds of the stream's own: at each header that the walk reaches, the plain stream has the same length field,
--- since the length is the stream's own byte in every record, the first FILEPASS too.
+-- The walk of the plain stream is that of the stream's own, in which the first FILEPASS has id 0000: at each header that the walk reaches, the plain stream
+-- has the same length and, save there, the same id. So it has the same record bounds.
 -- Assumes nothing.
 use mathlib.Core.Path.{_≡_, refl, sym, ap, _∙_}
-use mathlib.Core.Bool.{false}
-use mathlib.Core.List.{List, _∷_}
+use mathlib.Core.Bool.{Bool, true, false, _&&_}
+use mathlib.Core.List.{List, [], _∷_, List·Memᴰ, List·Memᴰ·cases-cons, List·Memᴰ·not-nil}
+use mathlib.Core.Logic.{inl, inr}
 use mathlib.Core.Option.{Option, none, some}
-use Prim.Native.Nat.{ℕ, zero, suc, _+_, _≤_, _<_}
+use Prim.Native.Nat.{ℕ, _+_, _≤_, _<_}
 use native.Mathlib.Omega.{arith}
+use borrow.Author.Tests.{eq-eqb, ne-eqb}
+use lib.Dec.{eqb}
 use lib.ListN.{length, getD}
-use Rattle.laws.proofs.Choice.{either, same-or}
+use Rattle.laws.specs.Choice.{pick}
+use Rattle.laws.proofs.Choice.{taken, left, either, same-or}
 use Rattle.binary_office.specs.declared.Field16.{Field16}
 use Rattle.binary_office.specs.declared.Field16.the-variants as two
 use Rattle.binary_office.specs.declared.Step.{Step}
 use Rattle.binary_office.specs.declared.Step.the-variants as step
 use Rattle.binary_office.specs.declared.WalkEnd.the-variants as end
 use Rattle.binary_office.specs.Fields.{le16At}
-use Rattle.binary_office.specs.Walk.{BiffRecord, Walk, stepAt, walkAt, walk, clearLen}
-use Rattle.binary_office.proofs.Headers.{le16-value, step-end, step-no-id, step-no-len, step-record, step-past}
-use Rattle.binary_office.proofs.Walks.{record-within, walk-end}
+use Rattle.binary_office.specs.Walk.{BiffRecord, stepAt, walkAt, walk, clearLen}
+use Rattle.binary_office.proofs.Headers.{le16-value, step-no-id, step-no-len, step-record, step-past}
+use Rattle.binary_office.proofs.Walks.{record-within}
+use Rattle.binary_office.proofs.Along.{records-on, records-end, records-fault, along}
+use Rattle.binary_office.proofs.Renamed.{renamed, walk-renamed}
 use Rattle.file_params.specs.Questions.{filepass, le16}
 use Rattle.file_params.proofs.Fields.{field-value}
 use Rattle.excel97.specs.Open.{recordAt, blanked}
 use Rattle.excel97.specs.Demand3.{Bounds, boundsOf}
-use Rattle.excel97.proofs.Records.{records-on, ends-on, filepass-here, filepass-on, records-end, records-fault, no-filepass, Reached, reached-none, reached-on, reached-fault, reached-end, record-here}
-use Rattle.excel97.proofs.Blanked.{blank-before, blank-length, blank-behind}
+use Rattle.excel97.proofs.Records.{filepass-here, filepass-on, no-filepass, clear-within, Reached, reached-none, reached-on, reached-fault, record-here}
+use Rattle.excel97.proofs.Blanked.{blank-before, blank-id, blank-length, blank-behind}
+
+-- the id that a header has in the plain stream, by its offset and its id in the stream
+unfoldable pub unlocked : (first : Option BiffRecord) → (at id : ℕ) → ℕ
+unlocked first at id = pick (eqb id 0x002F && blanked first at) 0 id
+
+-- other ids leave the bounds as they are
+bounds-kept : (new : ℕ → ℕ → ℕ) (rs : List BiffRecord) → boundsOf (renamed new rs) ≡ boundsOf rs
+bounds-kept new [] = refl
+bounds-kept new (r ∷ rs) = ap (λ (bs : List Bounds). record { header = r .at; end = r .at + 4 + r .len } ∷ bs) (bounds-kept new rs)
 
 module _ (s : List ℕ) where
-  -- a statement of every offset of a walk, proved at its end, at a fault, and at a record from the next header
-  pub along : (P : ℕ → Type 0) → ((at : ℕ) → stepAt s at ≡ step.End → P at) → ((at p : ℕ) → stepAt s at ≡ step.Fault p → P at)
-      → ((at id len : ℕ) → stepAt s at ≡ step.Record id len → P (at + 4 + len) → P at) → (at : ℕ) → at ≤ length s → P at
-  along P ended faulty one at h = go (suc (length s)) at h (omega arith)
-    where
-      go : (f at : ℕ) → at ≤ length s → length s < f + at → P at
-      go zero at h k = absurd (no at h k)
-        where
-          no : (at : ℕ) → at ≤ length s → length s < 0 + at → ⊥
-          no at h k = omega arith
-      go (suc f) at h k = by-step (stepAt s at) refl (go f)
-        where
-          by-step : (w : Step) → stepAt s at ≡ w → ((n : ℕ) → n ≤ length s → length s < f + n → P n) → P at
-          by-step step.End e again = ended at e
-          by-step (step.Fault p) e again = faulty at p e
-          by-step (step.Record id len) e again = one at id len e (again (at + 4 + len) (record-within s at id len e) (omega arith))
-
-  -- the length of a record is its header's second field
+  -- the id and the length of a record are its header's two fields
   module _ (at id len : ℕ) (e : stepAt s at ≡ step.Record id len) where
-    not-record : (w : Step) → w ≡ stepAt s at → (w ≡ step.Record id len → len ≡ le16 s (at + 2)) → len ≡ le16 s (at + 2)
+    abbrev Fields : Type 0
+    Fields = (id ≡ le16 s at) × (len ≡ le16 s (at + 2))
+
+    not-record : (w : Step) → w ≡ stepAt s at → (w ≡ step.Record id len → Fields) → Fields
     not-record w g f = f (g ∙ e)
 
-    by-len : at < length s → (i : ℕ) → two.Value i ≡ le16At s at → (w : Field16) → w ≡ le16At s (at + 2) → len ≡ le16 s (at + 2)
-    by-len h i g two.Short k = not-record (step.Fault at) (step-no-len s at h i g k) (λ q. cc)
+    by-len : at < length s → (i : ℕ) → two.Value i ≡ le16At s at → (w : Field16) → w ≡ le16At s (at + 2) → Fields
+    by-len h i g two.Short k = not-record (step.Fault at) (step-no-len s at h i g k) (λ q. (cc, cc))
     by-len h i g (two.Value l) k =
         either (at + 4 + l) (length s)
-        (λ m. not-record (step.Record i l) (step-record s at h i l g k m) (λ q. let z : len ≡ l = cc in z ∙ field-value s (at + 2) l k))
-        (λ m. not-record (step.Fault at) (step-past s at h i l g k m) (λ q. cc))
+        (λ m. not-record (step.Record i l) (step-record s at h i l g k m)
+        (λ q. let y : id ≡ i = cc in let z : len ≡ l = cc in (y ∙ field-value s at i g, z ∙ field-value s (at + 2) l k)))
+        (λ m. not-record (step.Fault at) (step-past s at h i l g k m) (λ q. (cc, cc)))
 
-    by-id : at < length s → (w : Field16) → w ≡ le16At s at → len ≡ le16 s (at + 2)
-    by-id h two.Short g = not-record (step.Fault at) (step-no-id s at h g) (λ q. cc)
+    by-id : at < length s → (w : Field16) → w ≡ le16At s at → Fields
+    by-id h two.Short g = not-record (step.Fault at) (step-no-id s at h g) (λ q. (cc, cc))
     by-id h (two.Value i) g = by-len h i g (le16At s (at + 2)) refl
 
-    pub length-field : len ≡ le16 s (at + 2)
-    length-field = let m = record-within s at id len e in by-id (omega arith) (le16At s at) refl
+    pub header-fields : Fields
+    header-fields = let m = record-within s at id len e in by-id (omega arith) (le16At s at) refl
 
   -- the first FILEPASS of the walk from an offset on stands at that offset or behind it
   filepass-from : (at : ℕ) → at ≤ length s → (r : BiffRecord) → filepass (walkAt s at .records) ≡ some r → at ≤ r .at
   filepass-from =
-      along (λ (at : ℕ). (r : BiffRecord) → filepass (walkAt s at .records) ≡ some r → at ≤ r .at)
+      along s (λ (at : ℕ). (r : BiffRecord) → filepass (walkAt s at .records) ≡ some r → at ≤ r .at)
       (λ at e r g. none-there at r (no-filepass (walkAt s at .records) (records-end s at e)) g)
       (λ at p e r g. none-there at r (no-filepass (walkAt s at .records) (records-fault s at p e)) g)
       (λ at id len e again r g.
@@ -95,60 +97,114 @@ module _ (s : List ℕ) where
         (λ q. ahead (g ∙ filepass-on s at id len e q))
     sits-on (passed g) = passed (λ o h. g o (omega arith))
 
-    before-next : (w : Option BiffRecord) → filepass (walkAt s (at + 4 + len) .records) ≡ w → (o : ℕ) → o < at + 4 → blanked w o ≡ false
+    before-next : (w : Option BiffRecord) → filepass (walkAt s (at + 4 + len) .records) ≡ w → (o : ℕ) → o < at + 4 + len → blanked w o ≡ false
     before-next none g o k = refl
     before-next (some r) g o k = let h = filepass-from (at + 4 + len) (record-within s at id len e) r g in blank-before r o (omega arith)
 
-    -- the length field of a record is not zeroed
+    -- the length of a record is not zeroed
     length-kept : Sits f at → (o : ℕ) → at + 2 ≤ o → o < at + 4 → blanked f o ≡ false
     length-kept (ahead g) o h k =
         same-or id 0x002F
         (λ q. rw (g ∙ filepass-here s at id len e q) (blank-length here o h k))
-        (λ q. rw (g ∙ filepass-on s at id len e q) (before-next (filepass (walkAt s (at + 4 + len) .records)) refl o k))
+        (λ q. rw (g ∙ filepass-on s at id len e q) (before-next (filepass (walkAt s (at + 4 + len) .records)) refl o (omega arith)))
     length-kept (passed g) o h k = g o (omega arith)
 
-  -- any bytes that keep headers and clear parts, save the zeroed ones
+    -- nor is any byte of a record other than FILEPASS
+    record-kept : (id ≡ 0x002F → ⊥) → Sits f at → (o : ℕ) → at ≤ o → o < at + 4 + len → blanked f o ≡ false
+    record-kept n (ahead g) o h k = rw (g ∙ filepass-on s at id len e n) (before-next (filepass (walkAt s (at + 4 + len) .records)) refl o k)
+    record-kept n (passed g) o h k = g o h
+
+  -- any bytes that keep headers and clear parts, and are zero where a FILEPASS is zeroed
   module _ (d : List ℕ) (size : length d ≡ length s) (clean : walk s .ends ≡ end.Clean)
       (own : (r : BiffRecord) (o : ℕ) → recordAt (walk s .records) o ≡ some r → o < r .at + 4 + clearLen (r .id) (r .len) → blanked (filepass (walk s .records)) o ≡ false
-      → getD d o 0 ≡ getD s o 0) where
-    -- at a record, the same length
-    module _ (at id len : ℕ) (w : Reached s at) (f : Sits (filepass (walk s .records)) at) (e : stepAt s at ≡ step.Record id len) where
-      same-byte : (o : ℕ) → at + 2 ≤ o → o < at + 4 → getD d o 0 ≡ getD s o 0
-      same-byte o h k =
-          own (record { at = at; id = id; len = len }) o (record-here s at id len w e o (omega arith) (omega arith)) (omega arith)
-          (length-kept (filepass (walk s .records)) at id len e f o h k)
+      → getD d o 0 ≡ getD s o 0)
+      (zeroed : (o : ℕ) → o < length s → blanked (filepass (walk s .records)) o ≡ true → getD d o 0 ≡ 0) where
+    abbrev first : Option BiffRecord
+    first = filepass (walk s .records)
+
+    -- at a record
+    module _ (at id len : ℕ) (w : Reached s at) (f : Sits first at) (e : stepAt s at ≡ step.Record id len) where
+      header-byte : (o : ℕ) → at ≤ o → o < at + 4 → blanked first o ≡ false → getD d o 0 ≡ getD s o 0
+      header-byte o h k b = own (record { at = at; id = id; len = len }) o (record-here s at id len w e o h (omega arith)) (omega arith) b
+
+      -- a field whose two bytes are the stream's own
+      own-field : (o : ℕ) → at ≤ o → o + 1 < at + 4 → blanked first o ≡ false → blanked first (o + 1) ≡ false → le16 d o ≡ le16 s o
+      own-field o h k b c = rw (header-byte o h (omega arith) b, header-byte (o + 1) (omega arith) k c)
 
       same-length : len ≡ le16 d (at + 2)
-      same-length = length-field at id len e ∙ sym (rw (same-byte (at + 2) (omega arith) (omega arith), same-byte (at + 2 + 1) (omega arith) (omega arith)))
+      same-length =
+          header-fields at id len e .1
+          ∙ sym (own-field (at + 2) (omega arith) (omega arith)
+          (length-kept first at id len e f (at + 2) (omega arith) (omega arith))
+          (length-kept first at id len e f (at + 2 + 1) (omega arith) (omega arith)))
 
-      same-step : stepAt d at ≡ step.Record (le16 d at) len
-      same-step =
+      own-id : blanked first at ≡ false → blanked first (at + 1) ≡ false → id ≡ le16 d at
+      own-id b c = header-fields at id len e .0 ∙ sym (own-field at (omega arith) (omega arith) b c)
+
+      zero-id : id ≡ 0x002F → first ≡ filepass (walkAt s at .records) → (blanked first at ≡ true) × (0 ≡ le16 d at)
+      zero-id q g =
           let m = record-within s at id len e in
-          sym
-          (step-record d at (omega arith) (le16 d at) len (le16-value d at (le16 d at) (omega arith) refl)
-          (le16-value d (at + 2) len (omega arith) same-length)
-          (omega arith))
+          let i : first ≡ some (record { at = at; id = id; len = len }) = g ∙ filepass-here s at id len e q in
+          let a : blanked first at ≡ true = rw i (blank-id (record { at = at; id = id; len = len }) at (omega arith) (omega arith)) in
+          let b : blanked first (at + 1) ≡ true = rw i (blank-id (record { at = at; id = id; len = len }) (at + 1) (omega arith) (omega arith)) in
+          (a, sym (rw (zeroed at (omega arith) a, zeroed (at + 1) (omega arith) b)))
 
-    abbrev Same : ℕ → Type 0
-    Same at = Reached s at → Sits (filepass (walk s .records)) at
-        → (boundsOf (walkAt d at .records) ≡ boundsOf (walkAt s at .records)) × (walkAt d at .ends ≡ walkAt s at .ends)
+      -- the id there: 0 for the first FILEPASS, else the stream's own
+      same-id : Sits first at → unlocked first at id ≡ le16 d at
+      unfolding unlocked
+      same-id (ahead g) =
+          same-or id 0x002F
+          (λ q. let z = zero-id q g in taken 0 id (rw (eq-eqb id 0x002F q, z .0)) ∙ z .1)
+          (λ n. left 0 id (rw (ne-eqb id 0x002F n)) ∙ own-id (record-kept first at id len e n f at (omega arith) (omega arith))
+          (record-kept first at id len e n f (at + 1) (omega arith) (omega arith)))
+      same-id (passed g) =
+          left 0 id (rw (g at (omega arith)) (none-zeroed (eqb id 0x002F))) ∙ own-id (g at (omega arith)) (g (at + 1) (omega arith))
+        where
+          none-zeroed : (t : Bool) → (t && false) ≡ false
+          none-zeroed true = refl
+          none-zeroed false = refl
 
-    same-from : (at : ℕ) → at ≤ length s → Same at
-    same-from =
-        along Same
-        (λ at e w f.
-        let h = reached-end s at w e in
-        let g : stepAt d at ≡ step.End = sym (step-end d at (omega arith)) in
-        (ap boundsOf (records-end d at g ∙ sym (records-end s at e)), ap (λ (v : Walk). v .ends) (walk-end d at g ∙ sym (walk-end s at e))))
-        (λ at p e w f. absurd (reached-fault s at w p e clean))
-        (λ at id len e again w f.
-        let g = same-step at id len w f e in
-        let rest = again (reached-on s at id len w e) (sits-on (filepass (walk s .records)) at id len e f) in (
-          ap boundsOf (records-on d at (le16 d at) len g)
-              ∙ ap (λ (bs : List Bounds). record { header = at; end = at + 4 + len } ∷ bs) (rest .0)
-              ∙ sym (ap boundsOf (records-on s at id len e)),
-          ends-on d at (le16 d at) len g ∙ rest .1 ∙ sym (ends-on s at id len e),
-        ))
+      header-there : (two.Value (unlocked first at id) ≡ le16At d at) × (two.Value len ≡ le16At d (at + 2))
+      header-there =
+          let m = record-within s at id len e in
+          (le16-value d at (unlocked first at id) (omega arith) (same-id f), le16-value d (at + 2) len (omega arith) same-length)
+
+    -- a record other than FILEPASS has its own bytes in its header and clear part
+    abbrev Own : BiffRecord → Type 0
+    Own r = (r .id ≡ 0x002F → ⊥) → (o : ℕ) → r .at ≤ o → o < r .at + 4 + clearLen (r .id) (r .len) → getD d o 0 ≡ getD s o 0
+
+    own-here : (at id len : ℕ) → Reached s at → Sits first at → stepAt s at ≡ step.Record id len → Own (record { at = at; id = id; len = len })
+    own-here at id len w f e n o h k =
+        let m = clear-within id len in
+        own (record { at = at; id = id; len = len }) o (record-here s at id len w e o h (omega arith)) k
+        (record-kept first at id len e n f o h (omega arith))
+
+    pub own-bytes : (r : BiffRecord) → List·Memᴰ r (walk s .records) → Own r
+    own-bytes =
+        along s (λ (at : ℕ). Reached s at → Sits first at → (r : BiffRecord) → List·Memᴰ r (walkAt s at .records) → Own r)
+        (λ at e w f r i. absurd (none-there r (records-end s at e) i))
+        (λ at p e w f r i. absurd (none-there r (records-fault s at p e) i))
+        (λ at id len e again w f r i.
+        elim (List·Memᴰ·cases-cons (rw (records-on s at id len e) at i)) [
+          | inl q ↦ rw q (own-here at id len w f e)
+          | inr j ↦ again (reached-on s at id len w e) (sits-on first at id len e f) r j
+        ])
+        0
+        (omega arith)
+        (reached-none s)
+        (ahead refl)
+      where
+        none-there : (r : BiffRecord) {rs : List BiffRecord} → rs ≡ [] → List·Memᴰ r rs → ⊥
+        none-there r e i = List·Memᴰ·not-nil (rw e at i)
+
+    -- the walk of those bytes is the stream's own, in which the first FILEPASS has id 0000
+    pub same-records : (walk d .records ≡ renamed (unlocked first) (walk s .records)) × (walk d .ends ≡ walk s .ends)
+    same-records =
+        walk-renamed s d size (unlocked first) (λ (at : ℕ). Reached s at × Sits first at)
+        (λ at id len k e. (reached-on s at id len (k .0) e, sits-on first at id len e (k .1)))
+        (λ at p k e. reached-fault s at (k .0) p e clean)
+        (λ at id len k e. header-there at id len (k .0) (k .1) e)
+        (reached-none s, ahead refl)
 
     pub same-bounds : (boundsOf (walk d .records) ≡ boundsOf (walk s .records)) × (walk d .ends ≡ walk s .ends)
-    same-bounds = same-from 0 (omega arith) (reached-none s) (ahead refl)
+    same-bounds = (ap boundsOf (same-records .0) ∙ bounds-kept (unlocked first) (walk s .records), same-records .1)

@@ -44,3 +44,27 @@ module _ {t : Bool} (qs : List Question) where
   pub only-no : t ≡ false → only t qs ≡ []
   unfolding only
   only-no e = left qs [] e
+
+-- where no question has a "no"
+pub none-of-both : (ps qs : List Question) → asked (ps ++ qs) ≡ none → (asked ps ≡ none) × (asked qs ≡ none)
+none-of-both ps qs e = go (asked ps) refl
+  where
+    go : (o : Option Refusal) → o ≡ asked ps → (asked ps ≡ none) × (asked qs ≡ none)
+    go none g = (sym g, sym (asked-on ps qs g) ∙ e)
+    go (some r) g = let h = asked-stop ps qs r g in (cc, cc)
+
+pub first-yes : (q : Question) (qs : List Question) → asked (q ∷ qs) ≡ none → q .yes ≡ true
+unfolding asked pick
+first-yes q qs e = go (q .yes) e
+  where
+    go : (t : Bool) → pick t (asked qs) (some (q .no)) ≡ none → t ≡ true
+    go true e = refl
+    go false e = cc
+
+pub rest-yes : (q : Question) (qs : List Question) → asked (q ∷ qs) ≡ none → asked qs ≡ none
+unfolding asked pick
+rest-yes q qs e = go (q .yes) e
+  where
+    go : (t : Bool) → pick t (asked qs) (some (q .no)) ≡ none → asked qs ≡ none
+    go true e = e
+    go false e = cc

@@ -5,11 +5,12 @@ use Prim.Native.Nat.{_-_, _≤_}
 use native.Mathlib.Omega.{arith}
 use lib.ListN.{length}
 use Rattle.binary_office.specs.Walk.{walkAt, walk}
+use Rattle.binary_office.proofs.Along.{records-end, records-fault}
 use Rattle.binary_office.proofs.Walks.{record-within}
 use Rattle.file_params.specs.Questions.{filepass}
 use Rattle.excel97.specs.Steps.{foundOf}
 use borrow.Author.Needs.{needs}
-use Rattle.excel97.proofs.Records.{filepass-here, filepass-on, records-end, records-fault, no-filepass}
+use Rattle.excel97.proofs.Records.{filepass-here, filepass-on, no-filepass}
 use Rattle.excel97.proofs.find_filepass.Statement.{statement}
 use Rattle.excel97.proofs.find_filepass.Tie as tie
 

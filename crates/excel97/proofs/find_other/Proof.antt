@@ -6,11 +6,12 @@ use native.Mathlib.Omega.{arith}
 use borrow.Author.Tests.{not-true, not-false}
 use lib.ListN.{length}
 use Rattle.binary_office.specs.Walk.{walkAt, walk}
+use Rattle.binary_office.proofs.Along.{records-end, records-fault}
 use Rattle.binary_office.proofs.Walks.{record-within}
 use Rattle.file_params.specs.Questions.{otherId}
 use Rattle.excel97.specs.Steps.{otherOf}
 use borrow.Author.Needs.{needs}
-use Rattle.excel97.proofs.Records.{other-stop, other-here, other-on, records-end, records-fault, no-other}
+use Rattle.excel97.proofs.Records.{other-stop, other-here, other-on, no-other}
 use Rattle.excel97.proofs.find_other.Statement.{statement}
 use Rattle.excel97.proofs.find_other.Tie as tie
 
