@@ -1,24 +1,22 @@
 -- What the survey of a stream found, as answers to questions 6 to 9; and the lock of a FILEPASS body, as answers to 10 to 26.
 -- Assumes nothing.
 use mathlib.Core.Path.{_≡_, refl, sym, ap, _∙_}
-use mathlib.Core.Bool.{Bool, true, false, not, _||_}
-use mathlib.Core.List.{List, [], _++_, append-nil}
+use mathlib.Core.Bool.{true, false, not}
+use mathlib.Core.List.{List}
 use mathlib.Core.Option.{Option, none, some}
-use Prim.Native.Nat.{ℕ, _+_, _-_, _≤_, _<_}
+use Prim.Native.Nat.{ℕ, _-_, _≤_, _<_}
 use native.Mathlib.Omega.{arith}
-use borrow.Author.Tests.{le-leb, lt-leb, eq-eqb, ne-eqb}
+use borrow.Author.Tests.{le-leb, lt-leb, ne-eqb}
 use lib.Dec.{eqb}
-use lib.ListN.{length, drop}
-use Rattle.laws.specs.Choice.{pick}
+use lib.ListN.{length}
 use Rattle.laws.proofs.Choice.{taken, left}
 use Rattle.binary_office.specs.declared.Field16.the-variants as two
-use Rattle.binary_office.specs.declared.WalkEnd.the-variants as end
 use Rattle.binary_office.specs.Fields.{le16At}
 use Rattle.binary_office.proofs.Headers.{le16-within}
 use Rattle.binary_office.specs.Walk.{BiffRecord, walk}
 use Rattle.file_params.specs.declared.Refusal.{Refusal}
-use Rattle.file_params.specs.declared.Refusal.the-variants.{BiffRecordUnreadable, WorkbookBofMissing, NotEncrypted, FilepassOutOfOrder, FilepassTruncated, FilepassEncryptionType}
-use Rattle.file_params.specs.Questions.{asked, only, book, lock, rc4, encryptionType, typeOf, structureOf, clean, faultAt, startsBof, filepass, otherId, isSome, orZero}
+use Rattle.file_params.specs.declared.Refusal.the-variants.{NotEncrypted, FilepassOutOfOrder, FilepassTruncated, FilepassEncryptionType}
+use Rattle.file_params.specs.Questions.{asked, only, inOrder, locked, book, lock, rc4, encryptionType, typeOf, structureOf, filepass, otherId, isSome, orZero}
 use Rattle.file_params.proofs.Fields.{field-value, field-cut}
 use Rattle.file_params.proofs.Laws.{past, refused, asked-on, asked-stop, only-yes, only-no}
 use Rattle.block_keys.specs.declared.Rc4Lock.{Rc4Lock}
@@ -27,7 +25,6 @@ use Rattle.block_keys.specs.Lock.{lockOf, unless}
 use Rattle.excel97.specs.declared.Found.the-variants as found
 use Rattle.excel97.specs.declared.Other.the-variants as other
 use Rattle.excel97.specs.declared.Book.{Book}
-use Rattle.excel97.specs.declared.Surveyed.{Surveyed}
 use Rattle.excel97.specs.declared.Surveyed.the-variants as surveyed
 use Rattle.excel97.specs.declared.Scheme.{Scheme}
 use Rattle.excel97.specs.declared.Scheme.the-variants as scheme
@@ -61,41 +58,35 @@ module _ (s : List ℕ) (n : ℕ) where
   abbrev told : Book
   told = bookBy n (filepass (walk s .records))
 
-  pub no-bof : startsBof (walk s .records) ≡ false → surveyed.Refused WorkbookBofMissing ≡ surveyedOf told (asked (drop 1 (book s)))
-  unfolding asked book
-  no-bof e = ap (surveyedOf told) (refused _ e)
+  pub not-encrypted : foundOf (filepass (walk s .records)) ≡ found.Nothing → surveyed.Refused NotEncrypted ≡ surveyedOf told (asked (locked (walk s .records)))
+  unfolding asked locked
+  not-encrypted g = ap (surveyedOf told) (refused _ (is-nothing (filepass (walk s .records)) g))
 
-  module _ (e : startsBof (walk s .records) ≡ true) where
-    pub not-encrypted : foundOf (filepass (walk s .records)) ≡ found.Nothing → surveyed.Refused NotEncrypted ≡ surveyedOf told (asked (drop 1 (book s)))
-    unfolding asked book
-    not-encrypted g = ap (surveyedOf told) (past _ e (refused _ (is-nothing (filepass (walk s .records)) g)))
+  module _ (at len : ℕ) (g : foundOf (filepass (walk s .records)) ≡ found.At at len) where
+    pub out-of-order : (id : ℕ) → otherOf (otherId (walk s .records)) ≡ other.Id id
+        → surveyed.Refused (FilepassOutOfOrder id) ≡ surveyedOf told (asked (locked (walk s .records)))
+    unfolding asked locked
+    out-of-order id h =
+        ap (λ (i : ℕ). surveyed.Refused (FilepassOutOfOrder i)) (other-id (otherId (walk s .records)) id h)
+        ∙ ap (surveyedOf told) (past _ (is-found (filepass (walk s .records)) at len g) (refused _ (is-other (otherId (walk s .records)) id h)))
 
-    module _ (at len : ℕ) (g : foundOf (filepass (walk s .records)) ≡ found.At at len) where
-      pub out-of-order : (id : ℕ) → otherOf (otherId (walk s .records)) ≡ other.Id id
-          → surveyed.Refused (FilepassOutOfOrder id) ≡ surveyedOf told (asked (drop 1 (book s)))
-      unfolding asked book
-      out-of-order id h =
-          ap (λ (i : ℕ). surveyed.Refused (FilepassOutOfOrder i)) (other-id (otherId (walk s .records)) id h)
-          ∙ ap (surveyedOf told) (past _ e (past _ (is-found (filepass (walk s .records)) at len g) (refused _ (is-other (otherId (walk s .records)) id h))))
+    pub all-in-order : otherOf (otherId (walk s .records)) ≡ other.InOrder
+        → surveyed.Locked (record { records = n; at = at; len = len }) ≡ surveyedOf told (asked (locked (walk s .records)))
+    unfolding asked locked
+    all-in-order h =
+        ap surveyed.Locked (book-found n (filepass (walk s .records)) at len g)
+        ∙ ap (surveyedOf told) (past _ (is-found (filepass (walk s .records)) at len g) (past _ (is-in-order (otherId (walk s .records)) h) refl))
 
-      pub all-in-order : otherOf (otherId (walk s .records)) ≡ other.InOrder
-          → surveyed.Locked (record { records = n; at = at; len = len }) ≡ surveyedOf told (asked (drop 1 (book s)))
-      unfolding asked book
-      all-in-order h =
-          ap surveyed.Locked (book-found n (filepass (walk s .records)) at len g)
-          ∙ ap (surveyedOf told) (past _ e (past _ (is-found (filepass (walk s .records)) at len g) (past _ (is-in-order (otherId (walk s .records)) h) refl)))
-
--- question 6
+-- questions 6 and 7
 module _ (s : List ℕ) where
-  pub unreadable : (at : ℕ) → walk s .ends ≡ end.Fault at → surveyed.Refused (BiffRecordUnreadable at) ≡ surveyedOf (bookOf s) (asked (book s))
-  unfolding asked book
-  unreadable at e =
-      ap (λ (i : ℕ). surveyed.Refused (BiffRecordUnreadable i)) (sym (ap faultAt e)) ∙ ap (surveyedOf (bookOf s)) (refused _ (ap clean e))
+  pub out-of-walk : (r : Refusal) → some r ≡ asked (inOrder (walk s .ends) (walk s .records)) → surveyed.Refused r ≡ surveyedOf (bookOf s) (asked (book s))
+  unfolding book
+  out-of-walk r e = ap (surveyedOf (bookOf s)) (asked-stop (inOrder (walk s .ends) (walk s .records)) (locked (walk s .records)) r e)
 
-  pub walked : walk s .ends ≡ end.Clean
-      → surveyedOf (bookBy (length (walk s .records)) (filepass (walk s .records))) (asked (drop 1 (book s))) ≡ surveyedOf (bookOf s) (asked (book s))
-  unfolding asked book bookOf
-  walked e = ap (surveyedOf (bookOf s)) (past _ (ap clean e) refl)
+  pub walked : none ≡ asked (inOrder (walk s .ends) (walk s .records))
+      → surveyedOf (bookBy (length (walk s .records)) (filepass (walk s .records))) (asked (locked (walk s .records))) ≡ surveyedOf (bookOf s) (asked (book s))
+  unfolding book bookOf
+  walked e = ap (surveyedOf (bookOf s)) (sym (asked-on (inOrder (walk s .ends) (walk s .records)) (locked (walk s .records)) e))
 
 -- questions 10 and 11, and those of a structure of type 1
 module _ (body : List ℕ) where

@@ -17,16 +17,16 @@ use Rattle.binary_office.specs.declared.WalkEnd.{WalkEnd}
 use Rattle.binary_office.specs.declared.WalkEnd.the-variants as end
 use Rattle.binary_office.specs.Walk.{BiffRecord, walkAt, walk}
 use Rattle.binary_office.proofs.Walks.{record-within}
+use Rattle.binary_office.proofs.Along.{records-end, records-fault, along}
 use Rattle.file_params.specs.declared.Refusal.{Refusal}
 use Rattle.file_params.specs.declared.Refusal.the-variants.{WrongPassword}
-use Rattle.file_params.specs.Questions.{Question, ask, asked, only, lent, book, lock, rc4, encryptionType, questions, clean, filepass, isSome, filepassBody, typeOf, structureOf}
+use Rattle.file_params.specs.Questions.{Question, ask, asked, only, lent, inOrder, locked, book, lock, rc4, encryptionType, questions, clean, filepass, isSome, filepassBody, typeOf, structureOf}
 use Rattle.file_params.specs.Refusal.{number}
-use Rattle.file_params.proofs.Laws.{asked-on, asked-stop}
+use Rattle.file_params.proofs.Laws.{asked-on, asked-stop, none-of-both, first-yes, rest-yes}
 use Rattle.block_keys.specs.declared.Rc4Lock.{Rc4Lock}
 use Rattle.block_keys.specs.Lock.{lockOf}
 use Rattle.excel97.specs.declared.Answer.{Answer}
 use Rattle.excel97.specs.declared.Answer.the-variants.{Opened, Refused}
-use Rattle.excel97.specs.declared.Checked.the-variants as checked
 use Rattle.excel97.specs.declared.Book.{Book}
 use Rattle.excel97.specs.declared.Report.{Report}
 use Rattle.excel97.specs.declared.Found.the-variants as found
@@ -34,19 +34,9 @@ use Rattle.excel97.specs.declared.Scheme.{Scheme}
 use Rattle.excel97.specs.declared.Scheme.the-variants as scheme
 use Rattle.excel97.specs.declared.Surveyed.the-variants as surveyed
 use Rattle.excel97.specs.Open.{passes, plain, report, xorReport, rc4Report, wiped, outcomeBy, outcome, Opens}
-use Rattle.excel97.specs.Steps.{checkedOf, foundOf, bookBy, bookOf, surveyedOf, schemeBy, schemeOf, Unlocks, Ready, laterRefusal, Settles}
-use Rattle.excel97.proofs.Answers.{given-passes, first-yes, none-of-both, later-number}
-use Rattle.excel97.proofs.Records.{filepass-here, filepass-on, records-end, records-fault, no-filepass}
-use Rattle.excel97.proofs.SameBounds.{along}
-
--- a question that was passed, and the next ones
-pub rest-yes : (q : Question) (qs : List Question) → asked (q ∷ qs) ≡ none → asked qs ≡ none
-unfolding asked pick
-rest-yes q qs e = go (q .yes) e
-  where
-    go : (t : Bool) → pick t (asked qs) (some (q .no)) ≡ none → asked qs ≡ none
-    go true e = e
-    go false e = cc
+use Rattle.excel97.specs.Steps.{foundOf, bookBy, bookOf, surveyedOf, schemeBy, schemeOf, Unlocks, Ready, laterRefusal, Settles}
+use Rattle.excel97.proofs.Answers.{given-passes, later-number}
+use Rattle.excel97.proofs.Records.{filepass-here, filepass-on, no-filepass}
 
 -- the first FILEPASS lies within the stream
 module _ (s : List ℕ) where
@@ -69,7 +59,7 @@ module _ (s : List ℕ) where
   -- what questions 6 to 9 tell
   module _ (e : none ≡ asked (book s)) (b : Book) (eb : b ≡ bookOf s) where
     ends-clean : walk s .ends ≡ end.Clean
-    unfolding book
+    unfolding book inOrder
     ends-clean = by-end (walk s .ends) (first-yes _ (drop 1 (book s)) (sym e))
       where
         by-end : (w : WalkEnd) → clean w ≡ true → w ≡ end.Clean
@@ -77,7 +67,7 @@ module _ (s : List ℕ) where
         by-end (end.Fault at) g = cc
 
     there : isSome (filepass (walk s .records)) ≡ true
-    unfolding book
+    unfolding book inOrder locked
     there = first-yes _ (drop 3 (book s)) (rest-yes _ (drop 2 (book s)) (rest-yes _ (drop 1 (book s)) (sym e)))
 
     by-place : (o : Option BiffRecord) → isSome o ≡ true → ((r : BiffRecord) → o ≡ some r → r .at + 4 + r .len ≤ length s) → b ≡ bookBy (length (walk s .records)) o
@@ -269,14 +259,6 @@ module _ (s p w o : List ℕ) where
         same-rest = sym (drop-drop 2000 64 w₁) ∙ ap (drop 2000) (t .kept) ∙ drop-drop 2000 64 w
 
 -- what the questions of what is lent tell
-pub lent-refused : (a : Option Refusal) (r : Refusal) → checkedOf a ≡ checked.Refused r → some r ≡ a
-lent-refused none r e = cc
-lent-refused (some q) r e = cc
-
-pub lent-fine : (a : Option Refusal) → checkedOf a ≡ checked.Fine → none ≡ a
-lent-fine none e = refl
-lent-fine (some q) e = cc
-
 pub lent-tells : (p : List ℕ) (stream scratch output : ℕ) → none ≡ asked (lent p stream scratch output) → (wellFormed p ≡ true) × (2064 ≤ scratch) × (stream ≤ output)
 unfolding lent
 lent-tells p stream scratch output e =

@@ -15,8 +15,6 @@ use Rattle.file_params.specs.declared.Refusal.the-variants.{WrongPassword}
 use Rattle.file_params.specs.Questions.{ask, asked, book, lock, filepass, typeOf, structureOf, filepassBody}
 use Rattle.block_keys.specs.Lock.{lockOf}
 use Rattle.excel97.specs.declared.Answer.{Answer}
-use Rattle.excel97.specs.declared.Checked.{Checked}
-use Rattle.excel97.specs.declared.Checked.the-variants as checked
 use Rattle.excel97.specs.declared.Found.{Found}
 use Rattle.excel97.specs.declared.Found.the-variants as found
 use Rattle.excel97.specs.declared.Other.{Other}
@@ -27,10 +25,6 @@ use Rattle.excel97.specs.declared.Surveyed.the-variants as surveyed
 use Rattle.excel97.specs.declared.Scheme.{Scheme}
 use Rattle.excel97.specs.declared.Scheme.the-variants as scheme
 use Rattle.excel97.specs.Open.{passes, plain, recordAt, inRecord, blanked, outcomeBy}
-
-abbrev pub checkedOf : Option Refusal → Checked
-checkedOf none = checked.Fine
-checkedOf (some r) = checked.Refused r
 
 abbrev pub foundOf : Option BiffRecord → Found
 foundOf none = found.Nothing

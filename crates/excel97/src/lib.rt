@@ -15,12 +15,13 @@ ghost use Rattle.sensitive.specs.Ansi.{ansi};
 ghost use Rattle.binary_office.specs.declared.WalkEnd.the-variants.{Clean};
 ghost use Rattle.binary_office.specs.Walk.{BiffRecord, walk};
 ghost use Rattle.file_params.specs.declared.Refusal.the-variants.{WrongPassword};
-ghost use Rattle.file_params.specs.Questions.{asked, lent, book, lock, startsBof, filepass, otherId, le16, filepassBody, typeOf, structureOf};
+ghost use Rattle.file_params.specs.Questions.{asked, lent, locked, book, lock, filepass, otherId, le16, filepassBody, typeOf, structureOf};
+ghost use Rattle.survey.specs.Checked.{checkedOf};
 ghost use Rattle.block_keys.specs.BlockKeys.{blockKey, keystreamAt};
 ghost use Rattle.block_keys.specs.Lock.{lockOf};
 ghost use Rattle.excel97.specs.declared.Answer.the-variants.{Opened, Refused};
 ghost use Rattle.excel97.specs.Open.{xorMatches, arrayOf, xorByte, inRecord, byKind, Opens};
-ghost use Rattle.excel97.specs.Steps.{throughAt, Blanks, Unlocks, Ready, Settles, checkedOf, foundOf, otherOf, bookBy, bookOf, surveyedOf, schemeBy, schemeOf};
+ghost use Rattle.excel97.specs.Steps.{throughAt, Blanks, Unlocks, Ready, Settles, foundOf, otherOf, bookBy, bookOf, surveyedOf, schemeBy, schemeOf};
 
 // The lock of a workbook.
 pub enum Lock {
@@ -40,12 +41,6 @@ pub struct Report {
 // What came of opening a stream.
 pub enum Answer {
     Opened(Report),
-    Refused(file_params::Refusal),
-}
-
-// Whether a group of questions was passed.
-enum Checked {
-    Fine,
     Refused(file_params::Refusal),
 }
 
@@ -82,36 +77,25 @@ enum Scheme {
 }
 
 // Asks questions 1 to 5.
-fn check_lent(password: &[u8], stream: usize, scratch: usize, output: usize) -> Checked
+fn check_lent(password: &[u8], stream: usize, scratch: usize, output: usize) -> survey::Checked
     ensures { λ r. ⌜ r ≡ checkedOf (asked (lent (now (password .entry)) stream scratch output)) ⌝ }
 {
     if limits::PASSWORD_MAX_LEN < password.len() {
-        return Checked::Refused(file_params::Refusal::PasswordTooLong);
+        return survey::Checked::Refused(file_params::Refusal::PasswordTooLong);
     }
     if !sensitive::well_formed(password) {
-        return Checked::Refused(file_params::Refusal::PasswordMalformed);
+        return survey::Checked::Refused(file_params::Refusal::PasswordMalformed);
     }
     if scratch < limits::SCRATCH_LEN {
-        return Checked::Refused(file_params::Refusal::ScratchShort);
+        return survey::Checked::Refused(file_params::Refusal::ScratchShort);
     }
     if limits::LEGACY_STREAM_READ_CAP < stream {
-        return Checked::Refused(file_params::Refusal::StreamTooLarge);
+        return survey::Checked::Refused(file_params::Refusal::StreamTooLarge);
     }
     if output < stream {
-        return Checked::Refused(file_params::Refusal::OutputShort);
+        return survey::Checked::Refused(file_params::Refusal::OutputShort);
     }
-    Checked::Fine
-}
-
-// Whether the first record is BOF.
-fn starts_bof(stream: &[u8]) -> bool
-    ensures { λ r. ⌜ r ≡ startsBof (walk (now (stream .entry)) .records) ⌝ }
-{
-    match binary_office::step_at(stream, 0) {
-        binary_office::Step::Record(id, _) => id == 0x0809,
-        binary_office::Step::Fault(_) => false,
-        binary_office::Step::End => false,
-    }
+    survey::Checked::Fine
 }
 
 // Finds the first FILEPASS.
@@ -179,13 +163,10 @@ fn zero(dst: &mut [u8], from: usize, to: usize)
     }
 }
 
-// Asks questions 7 to 9 of a stream of so many records.
-fn in_order(stream: &[u8], records: usize) -> Surveyed
-    ensures { λ r. ⌜ r ≡ surveyedOf (bookBy records (filepass (walk (now (stream .entry)) .records))) (asked (drop 1 (book (now (stream .entry))))) ⌝ }
+// Asks questions 8 and 9 of a stream of so many records.
+fn check_locked(stream: &[u8], records: usize) -> Surveyed
+    ensures { λ r. ⌜ r ≡ surveyedOf (bookBy records (filepass (walk (now (stream .entry)) .records))) (asked (locked (walk (now (stream .entry)) .records))) ⌝ }
 {
-    if !starts_bof(stream) {
-        return Surveyed::Refused(file_params::Refusal::WorkbookBofMissing);
-    }
     let Found::At(at, len) = find_filepass(stream) else {
         return Surveyed::Refused(file_params::Refusal::NotEncrypted);
     };
@@ -196,15 +177,14 @@ fn in_order(stream: &[u8], records: usize) -> Surveyed
 }
 
 // Asks questions 6 to 9: the record count and the place of the first FILEPASS, or the first refusal.
-fn survey(stream: &[u8]) -> Surveyed
+fn check_book(stream: &[u8]) -> Surveyed
     ensures { λ r. ⌜ r ≡ surveyedOf (bookOf (now (stream .entry))) (asked (book (now (stream .entry)))) ⌝ }
 {
     let walked = binary_office::walk(stream);
     let end = walked.end;
-    match end {
-        binary_office::WalkEnd::Fault(at) =>
-            Surveyed::Refused(file_params::Refusal::BiffRecordUnreadable(at)),
-        binary_office::WalkEnd::Clean => in_order(stream, walked.records),
+    match survey::check_records(stream, end) {
+        survey::Checked::Refused(refusal) => Surveyed::Refused(refusal),
+        survey::Checked::Fine => check_locked(stream, walked.records),
     }
 }
 
@@ -455,7 +435,7 @@ fn open_stream(stream: &[u8], password: &[u8], scratch: &mut [u8], output: &mut 
     requires { ⌜ (wellFormed (now password) ≡ true) × (2064 ≤ length (now scratch)) × (length (now stream) ≤ length (now output)) ⌝ }
     ensures { λ r. ⌜ Settles (now (stream .entry)) (now (password .entry)) (now (scratch .entry)) (now (output .entry)) r (now (scratch .exit)) (now (output .exit)) ⌝ }
 {
-    match survey(stream) {
+    match check_book(stream) {
         Surveyed::Refused(refusal) => Answer::Refused(refusal),
         Surveyed::Locked(found) => open_book(stream, found, password, scratch, output),
     }
@@ -466,8 +446,8 @@ pub fn open(stream: &[u8], password: &[u8], scratch: &mut [u8], output: &mut [u8
     ensures { λ r. ⌜ Opens (now (stream .entry)) (now (password .entry)) (now (scratch .entry)) (now (output .entry)) r (now (scratch .exit)) (now (output .exit)) ⌝ }
 {
     match check_lent(password, stream.len(), scratch.len(), output.len()) {
-        Checked::Refused(refusal) => Answer::Refused(refusal),
-        Checked::Fine => {
+        survey::Checked::Refused(refusal) => Answer::Refused(refusal),
+        survey::Checked::Fine => {
             let settled = open_stream(stream, password, scratch, output);
             sensitive::wipe(scratch, limits::SCRATCH_LEN);
             settled

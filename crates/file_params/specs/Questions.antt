@@ -1,4 +1,5 @@
 -- The questions of document 01 ("Open: the plain stream"), in its order and with its numbers beside them: each a test and what a "no" gives.
+-- Those that another operation asks too have a name.
 -- Assumes nothing.
 use Prim.Native.Nat.{ℕ, _+_, _-_, _*_, _%_, _^_}
 use mathlib.Core.Bool.{Bool, true, false, not, _&&_, _||_}
@@ -33,13 +34,17 @@ asked (q ∷ qs) = pick (q .yes) (asked qs) (some (q .no))
 unfoldable pub only : Bool → List Question → List Question
 only t qs = pick t qs []
 
+-- of the stream's length
+abbrev pub streamFits : (stream : ℕ) → Question
+streamFits stream = ask (leb stream 1073741824) StreamTooLarge  -- 4
+
 -- of what is lent: the password, and the lengths of the stream, the scratch and the output
 unfoldable pub lent : (password : List ℕ) → (stream scratch output : ℕ) → List Question
 lent password stream scratch output =
     ask (leb (length password) 1024) PasswordTooLong  -- 1
     ∷ ask (wellFormed password) PasswordMalformed  -- 2
     ∷ ask (leb 2064 scratch) ScratchShort  -- 3
-    ∷ ask (leb stream 1073741824) StreamTooLarge  -- 4
+    ∷ streamFits stream  -- 4
     ∷ ask (leb stream output) OutputShort  -- 5
     ∷ []
 
@@ -56,6 +61,13 @@ faultAt (end.Fault at) = at
 abbrev pub startsBof : List BiffRecord → Bool
 startsBof [] = false
 startsBof (r ∷ rs) = eqb (r .id) 0x0809
+
+-- of how the walk ends, and of its first record
+unfoldable pub inOrder : WalkEnd → List BiffRecord → List Question
+inOrder ends records =
+    ask (clean ends) (BiffRecordUnreadable (faultAt ends))  -- 6
+    ∷ ask (startsBof records) WorkbookBofMissing  -- 7
+    ∷ []
 
 -- the first FILEPASS
 unfoldable pub filepass : List BiffRecord → Option BiffRecord
@@ -75,16 +87,18 @@ abbrev pub orZero : Option ℕ → ℕ
 orZero none = 0
 orZero (some x) = x
 
+-- of FILEPASS, and of what stands before it
+unfoldable pub locked : List BiffRecord → List Question
+locked records =
+    ask (isSome (filepass records)) NotEncrypted  -- 8
+    ∷ ask (not (isSome (otherId records))) (FilepassOutOfOrder (orZero (otherId records)))  -- 9
+    ∷ []
+
 -- of the stream's records
 unfoldable pub book : (stream : List ℕ) → List Question
 book stream =
-    let ends = walk stream .ends in
-    let records = walk stream .records in
-    ask (clean ends) (BiffRecordUnreadable (faultAt ends))  -- 6
-    ∷ ask (startsBof records) WorkbookBofMissing  -- 7
-    ∷ ask (isSome (filepass records)) NotEncrypted  -- 8
-    ∷ ask (not (isSome (otherId records))) (FilepassOutOfOrder (orZero (otherId records)))  -- 9
-    ∷ []
+    inOrder (walk stream .ends) (walk stream .records)  -- 6, 7
+    ++ locked (walk stream .records)  -- 8, 9
 
 -- the body of the first FILEPASS, and the structure behind its type
 abbrev pub bodyOf : List ℕ → Option BiffRecord → List ℕ

@@ -5,7 +5,7 @@ use borrow.Author.Tests.{le-leb, lt-leb, not-true, not-false}
 use Rattle.file_params.specs.Questions.{asked, lent}
 use Rattle.file_params.proofs.Laws.{past, refused}
 use borrow.Author.Needs.{needs}
-use Rattle.excel97.specs.Steps.{checkedOf}
+use Rattle.survey.specs.Checked.{checkedOf}
 use Rattle.excel97.proofs.check_lent.Statement.{statement}
 use Rattle.excel97.proofs.check_lent.Tie as tie
 

@@ -3,8 +3,9 @@
 use mathlib.Core.Path.{_≡_, sym, _∙_}
 use lib.ListN.{length}
 use Rattle.file_params.specs.Questions.{asked, lent}
+use Rattle.survey.proofs.Groups.{checked-refused, checked-fine}
 use borrow.Author.Needs.{needs}
-use Rattle.excel97.proofs.Settled.{lent-refused, lent-fine, lent-tells, refused-lent, settled-all}
+use Rattle.excel97.proofs.Settled.{lent-tells, refused-lent, settled-all}
 use Rattle.excel97.proofs.open.Statement.{statement}
 use Rattle.excel97.proofs.open.Tie as tie
 
@@ -15,7 +16,7 @@ open-stream-requires c κs =
     let start = at-check-lent .before .before .before .before .before in
     let args = start .args in
     lent-tells (args .password .now) (length (args .stream .now)) (length (args .scratch .now)) (length (args .output .now))
-    (lent-fine (asked (lent (args .password .now) (length (args .stream .now)) (length (args .scratch .now)) (length (args .output .now))))
+    (checked-fine (asked (lent (args .password .now) (length (args .stream .now)) (length (args .scratch .now)) (length (args .output .now))))
     (sym (at-check-lent .check-lent .ensures) ∙ at-enum-told .enum-told .given .1))
 
 returns : tie.Need-returns
@@ -24,7 +25,7 @@ returns c =
     let start = at-check-lent .before .before .before .before .before in
     let args = start .args in
     refused-lent (args .stream .now) (args .password .now) (args .scratch .now) (args .output .now) _
-    (lent-refused (asked (lent (args .password .now) (length (args .stream .now)) (length (args .scratch .now)) (length (args .output .now)))) _
+    (checked-refused (asked (lent (args .password .now) (length (args .stream .now)) (length (args .scratch .now)) (length (args .output .now)))) _
     (sym (at-check-lent .check-lent .ensures) ∙ c .before .refusal .given .1))
 
 returns-2 : tie.Need-returns-2
@@ -35,7 +36,7 @@ returns-2 c =
     let at-check-lent = at-enum-told .before .before in
     let start = at-check-lent .before .before .before .before .before in
     let args = start .args in
-    let e = lent-fine (asked (lent (args .password .now) (length (args .stream .now)) (length (args .scratch .now)) (length (args .output .now))))
+    let e = checked-fine (asked (lent (args .password .now) (length (args .stream .now)) (length (args .scratch .now)) (length (args .output .now))))
     (sym (at-check-lent .check-lent .ensures) ∙ at-enum-told .enum-told .given .1) in
     let t = lent-tells (args .password .now) (length (args .stream .now)) (length (args .scratch .now)) (length (args .output .now)) e in
     settled-all (args .stream .now) (args .password .now) (args .scratch .now) (args .output .now) e _ _ _ _ (at-open-stream .open-stream .ensures)

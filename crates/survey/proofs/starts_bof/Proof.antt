@@ -1,11 +1,12 @@
--- `excel97::starts_bof` meets its contract: the first record is what stands at offset 0.
+-- `survey::starts_bof` meets its contract: the first record is what stands at offset 0.
 -- Assumes nothing.
 use mathlib.Core.Path.{sym, _∙_}
 use Rattle.binary_office.specs.Walk.{walk}
 use borrow.Author.Needs.{needs}
-use Rattle.excel97.proofs.Records.{starts, records-end, records-fault, not-bof}
-use Rattle.excel97.proofs.starts_bof.Statement.{statement}
-use Rattle.excel97.proofs.starts_bof.Tie as tie
+use Rattle.binary_office.proofs.Along.{records-end, records-fault}
+use Rattle.survey.proofs.First.{starts, not-bof}
+use Rattle.survey.proofs.starts_bof.Statement.{statement}
+use Rattle.survey.proofs.starts_bof.Tie as tie
 
 returns : tie.Need-returns
 returns c =
