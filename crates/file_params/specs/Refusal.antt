@@ -1,4 +1,5 @@
--- The number and the two details that document 01 gives each refusal ("Open: the plain stream", its questions); a detail that it does not name is 0.
+-- The number and the two details that document 01 gives each refusal ("Open: the plain stream", its questions), and document 02 those that a request adds
+-- (28 and 29: T-01); a detail that is not named is 0.
 -- Assumes nothing.
 use Prim.Native.Nat.{ℕ}
 use Rattle.file_params.specs.declared.Refusal.{Refusal}
@@ -32,6 +33,8 @@ number (refusal.EncryptionVerifierTruncated have) = 24
 number (refusal.VerifierSaltSize got) = 25
 number (refusal.VerifierHashSize got) = 26
 number refusal.WrongPassword = 27
+number (refusal.BoundSheetStart offset) = 28
+number (refusal.BofEofUnpaired offset) = 29
 
 abbrev pub first : Refusal → ℕ
 first refusal.PasswordTooLong = 0
@@ -61,6 +64,8 @@ first (refusal.EncryptionVerifierTruncated have) = have
 first (refusal.VerifierSaltSize got) = got
 first (refusal.VerifierHashSize got) = got
 first refusal.WrongPassword = 0
+first (refusal.BoundSheetStart offset) = offset
+first (refusal.BofEofUnpaired offset) = offset
 
 abbrev pub second : Refusal → ℕ
 second refusal.PasswordTooLong = 0
@@ -90,3 +95,5 @@ second (refusal.EncryptionVerifierTruncated have) = 60
 second (refusal.VerifierSaltSize got) = 0
 second (refusal.VerifierHashSize got) = 0
 second refusal.WrongPassword = 0
+second (refusal.BoundSheetStart offset) = 0
+second (refusal.BofEofUnpaired offset) = 0

@@ -1,10 +1,10 @@
 // The refusals: from the Rust source's file_params.rs, whose field and problem together name one, and from its
 // error's own cases. Document 01's questions 1 to 27, in its order; 1 to 3 and 5 are of what the caller lends, which
-// the source takes by type.
+// the source takes by type. 28 and 29 are of document 02's request T-01.
 ghost use mathlib.Core.Path.{_≡_};
 ghost use Rattle.file_params.specs.Refusal.{number, first, second};
 
-// Why a workbook stream is not opened, with what document 01 tells beside the number.
+// Why a workbook stream is refused, with what the documents tell beside the number.
 pub enum Refusal {
     PasswordTooLong,
     PasswordMalformed,
@@ -33,6 +33,8 @@ pub enum Refusal {
     VerifierSaltSize(u32),
     VerifierHashSize(u32),
     WrongPassword,
+    BoundSheetStart(usize),
+    BofEofUnpaired(usize),
 }
 
 // The two details of a refusal.
@@ -41,7 +43,7 @@ pub struct Details {
     pub second: u64,
 }
 
-// Document 01's number of a refusal.
+// The number of a refusal.
 pub fn number(refusal: Refusal) -> u32
     ensures { λ r. ⌜ r ≡ number refusal ⌝ }
 {
@@ -73,6 +75,8 @@ pub fn number(refusal: Refusal) -> u32
         Refusal::VerifierSaltSize(_) => 25,
         Refusal::VerifierHashSize(_) => 26,
         Refusal::WrongPassword => 27,
+        Refusal::BoundSheetStart(_) => 28,
+        Refusal::BofEofUnpaired(_) => 29,
     }
 }
 
@@ -83,7 +87,7 @@ fn both(first: u64, second: u64) -> Details
     Details { first, second }
 }
 
-// The two details of a refusal, 0 where document 01 names none.
+// The two details of a refusal, 0 where none is named.
 pub fn details_of(refusal: Refusal) -> Details
     ensures { λ r. ⌜ r ≡ record { first = first refusal; second = second refusal } ⌝ }
 {
@@ -115,5 +119,7 @@ pub fn details_of(refusal: Refusal) -> Details
         Refusal::VerifierSaltSize(got) => both(got as u64, 0),
         Refusal::VerifierHashSize(got) => both(got as u64, 0),
         Refusal::WrongPassword => both(0, 0),
+        Refusal::BoundSheetStart(offset) => both(offset as u64, 0),
+        Refusal::BofEofUnpaired(offset) => both(offset as u64, 0),
     }
 }
