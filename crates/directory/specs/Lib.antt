@@ -1,0 +1,4 @@
+pub mod Brackets
+pub mod Directory
+pub mod Steps
+pub mod Theorems
