@@ -15,6 +15,7 @@ use Rattle.binary_office.specs.declared.Verdict.the-variants.{Yes, No, Unknown}
 use Rattle.binary_office.specs.declared.Step.{Step}
 use Rattle.binary_office.specs.declared.Step.the-variants.{Record, Fault, End}
 use Rattle.binary_office.specs.Walk.{clearLen}
+use Rattle.file_params.specs.declared.Refusal.{Refusal}
 use Rattle.file_params.specs.Refusal.{number, first, second}
 use Rattle.excel97.specs.declared.Lock.{Lock}
 use Rattle.excel97.specs.declared.Lock.the-variants.{Xor, Office97, CryptoApi}
@@ -22,6 +23,11 @@ use Rattle.excel97.specs.declared.Report.{Report}
 use Rattle.excel97.specs.declared.Answer.{Answer}
 use Rattle.excel97.specs.declared.Answer.the-variants.{Opened, Refused}
 use Rattle.excel97.specs.Open.{Outcome, outcome}
+use Rattle.directory.specs.declared.Start.{Start}
+use Rattle.directory.specs.declared.Start.the-variants.{At, Nothing}
+use Rattle.directory.specs.declared.Sheets.{Sheets}
+use Rattle.directory.specs.declared.Answer as directory
+use Rattle.directory.specs.declared.Answer.the-variants as answer
 
 -- true is 1
 abbrev pub flag : Bool → ℕ
@@ -69,6 +75,23 @@ recordFacts End = facts 0 0 0 0 0
 recordFacts (Record id len) = facts id len (clearLen id len) 0 0
 recordFacts (Fault at) = facts at 0 0 0 0
 
+-- a refusal: its two details
+abbrev pub refusalFacts : Refusal → List ℕ
+refusalFacts r = facts (first r) (second r) 0 0 0
+
+-- the directory: 0, or the refusal's number; sheets, 1 if there is one at the place, its start; or the refusal's two details
+abbrev pub directoryNumber : directory.Answer → ℕ
+directoryNumber (answer.Told t) = 0
+directoryNumber (answer.Refused r) = number r
+
+abbrev pub startFacts : (count : ℕ) → Start → List ℕ
+startFacts count Nothing = facts count 0 0 0 0
+startFacts count (At offset) = facts count 1 offset 0 0
+
+abbrev pub directoryFacts : directory.Answer → List ℕ
+directoryFacts (answer.Told t) = startFacts (t .count) (t .start)
+directoryFacts (answer.Refused r) = refusalFacts r
+
 -- Open: 0, or the refusal's number; records, lock (0 XOR, 1 1.1, 2 CryptoAPI), key bits, summary sealed; or the refusal's two details
 abbrev pub lockNumber : Lock → ℕ
 lockNumber Xor = 0
@@ -81,7 +104,7 @@ openNumber (Refused r) = number r
 
 abbrev pub openFacts : Answer → List ℕ
 openFacts (Opened r) = facts (r .records) (lockNumber (r .lock)) (r .«key_bits») (flag (r .«summary_sealed»)) 0
-openFacts (Refused r) = facts (first r) (second r) 0 0 0
+openFacts (Refused r) = refusalFacts r
 
 -- what `sheet_open` answers and leaves
 pub record OpensInC (stream password scratch output : List ℕ) (number : ℕ) (scratch′ output′ facts′ : List ℕ) : Type 0 where

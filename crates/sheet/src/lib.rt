@@ -4,7 +4,8 @@ ghost use mathlib.Core.Path.{_≡_};
 ghost use Rattle.laws.specs.Choice.{pick};
 ghost use Rattle.binary_office.specs.Walk.{stepAt};
 ghost use Rattle.binary_office.specs.Look.{look, sameLock};
-ghost use Rattle.sheet.specs.Facts.{flag, facts, lookNumber, lookFacts, recordNumber, recordFacts, bitsOf, thereOf, majorOf, minorOf, lockNumber, openNumber, openFacts, OpensInC};
+ghost use Rattle.directory.specs.Directory.{directory};
+ghost use Rattle.sheet.specs.Facts.{flag, facts, lookNumber, lookFacts, recordNumber, recordFacts, startFacts, refusalFacts, directoryNumber, directoryFacts, bitsOf, thereOf, majorOf, minorOf, lockNumber, openNumber, openFacts, OpensInC};
 
 // True is 1.
 fn flag(b: bool) -> u64
@@ -99,6 +100,47 @@ fn record_number(step: binary_office::Step) -> u32
     }
 }
 
+// The facts of a sheet's start, in a stream of so many sheets.
+fn start_facts(count: usize, start: directory::Start) -> [u64; 8]
+    ensures { λ r. ⌜ r ≡ startFacts count start ⌝ }
+{
+    match start {
+        directory::Start::Nothing => facts(count as u64, 0, 0, 0, 0),
+        directory::Start::At(offset) => facts(count as u64, 1, offset as u64, 0, 0),
+    }
+}
+
+// The facts of a refusal.
+fn refusal_facts(refusal: file_params::Refusal) -> [u64; 8]
+    ensures { λ r. ⌜ r ≡ refusalFacts refusal ⌝ }
+{
+    let details = file_params::details_of(refusal);
+    facts(details.first, details.second, 0, 0, 0)
+}
+
+// The facts of a directory's answer.
+fn directory_facts(answer: directory::Answer) -> [u64; 8]
+    ensures { λ r. ⌜ r ≡ directoryFacts answer ⌝ }
+{
+    match answer {
+        directory::Answer::Told(sheets) => {
+            let start = sheets.start;
+            start_facts(sheets.count, start)
+        }
+        directory::Answer::Refused(refusal) => refusal_facts(refusal),
+    }
+}
+
+// The number of a directory's answer.
+fn directory_number(answer: directory::Answer) -> u32
+    ensures { λ r. ⌜ r ≡ directoryNumber answer ⌝ }
+{
+    match answer {
+        directory::Answer::Told(_) => 0,
+        directory::Answer::Refused(refusal) => file_params::number(refusal),
+    }
+}
+
 // The number of a lock.
 fn lock_number(lock: excel97::Lock) -> u64
     ensures { λ r. ⌜ r ≡ lockNumber lock ⌝ }
@@ -125,10 +167,7 @@ fn open_facts(answer: excel97::Answer) -> [u64; 8]
                 0,
             )
         }
-        excel97::Answer::Refused(refusal) => {
-            let details = file_params::details_of(refusal);
-            facts(details.first, details.second, 0, 0, 0)
-        }
+        excel97::Answer::Refused(refusal) => refusal_facts(refusal),
     }
 }
 
@@ -169,6 +208,16 @@ pub extern "C" fn sheet_record(stream: &[u8], at: usize, told: &mut [u64; 8]) ->
     let step = reached.found;
     *told = record_facts(step);
     record_number(step)
+}
+
+// The directory of sheets.
+#[no_mangle]
+pub extern "C" fn sheet_directory(stream: &[u8], place: usize, told: &mut [u64; 8]) -> u32
+    ensures { λ r. ⌜ (r ≡ directoryNumber (directory (now (stream .entry)) place)) × (now (told .exit) ≡ directoryFacts (directory (now (stream .entry)) place)) ⌝ }
+{
+    let answer = directory::directory(stream, place);
+    *told = directory_facts(answer);
+    directory_number(answer)
 }
 
 // Open.

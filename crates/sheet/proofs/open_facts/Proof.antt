@@ -12,7 +12,7 @@ returns c =
     c .facts .ensures ∙ rw (at-lock-number .lock-number .ensures, c .before .flag .ensures, at-answer .answer .given .1)
 
 returns-2 : tie.Need-returns-2
-returns-2 c = c .facts2 .ensures ∙ rw (c .before .details-of .ensures, c .before .before .before .answer2 .given .1)
+returns-2 c = c .refusal-facts .ensures ∙ rw (c .before .before .answer2 .given .1)
 
 pub open-facts-spec : {M : Type 1} → statement M
 open-facts-spec =
@@ -24,7 +24,6 @@ open-facts-spec =
     (λ c κs. search needs)
     (λ c κs. search needs)
     (λ c. search needs)
-    (λ c κs. search needs)
     (λ c κs. search needs)
     returns
     returns-2)
