@@ -22,11 +22,20 @@ def row(number, name, degrees):
 
 
 table = [cell for n in range(CALIBRES) for cell in row(n, f"cal. {11 + n}.{n * 7 % 10}", 52 if n < CALIBRES - 1 else 50)]
-globals_ = [(BOF, struct.pack("<8H", 0x0600, 5, 0, 0, 0, 0, 0, 0)), (FILEPASS, b""), (BOUND_SHEET, bytes(4) + b"\0\0\x08\0calibres"), (EOF, b"")]
-records = globals_ + [(BOF, struct.pack("<8H", 0x0600, 0x10, 0, 0, 0, 0, 0, 0))] + table + [(EOF, b"")]
+sheet = [(BOF, struct.pack("<8H", 0x0600, 0x10, 0, 0, 0, 0, 0, 0))] + table + [(EOF, b"")]
+
+
+def globals_(lock_len):
+    """The records ahead of the sheet. Its entry (BoundSheet8) names the offset of its BOF, which the length of the lock decides."""
+    records = [(BOF, struct.pack("<8H", 0x0600, 5, 0, 0, 0, 0, 0, 0)), (FILEPASS, b""), (BOUND_SHEET, bytes(4) + b"\0\0\x08\0calibres"), (EOF, b"")]
+    start = lock_len + sum(4 + len(body) for _, body in records)
+    records[2] = BOUND_SHEET, struct.pack("<I", start) + records[2][1][4:]
+    return records
+
+
 sheets, text = b"", ""
 for name, lock, password in ("XOR", xor, xor.passwords(12)[0]), ("RC4 1.1", Office97(), "Hebungswinkel 50°"), ("RC4 CryptoAPI", CryptoApi(), "Hebungswinkel 50°"):
-    stream, plain = book(lock, password, records)
+    stream, plain = book(lock, password, globals_(len(lock.filepass(password))) + sheet)
     assert plain.rindex(struct.pack("<H", RK)) > 1024
     for heading, tried, line in (name, password, "50"), (f"{name}, another password", password[:-1], "refused, 27"):
         for part in heading.encode(), tried.encode(), stream:
