@@ -1,9 +1,9 @@
-/* Protected Excel 97-2003 workbook streams: looking and opening.
+/* Protected Excel 97-2003 workbook streams: looking, opening, and the directory of sheets.
  *
  * libsheet.a has no heap, no operating system and no global state. It reads and writes only what the caller
  * lends, and every function is proved to end, to do nothing undefined and to answer what the definitions in
- * crates/binary_office/specs, crates/file_params/specs and crates/excel97/specs say, for every argument that
- * follows these rules:
+ * crates/binary_office/specs, crates/file_params/specs, crates/directory/specs and crates/excel97/specs say, for
+ * every argument that follows these rules:
  *
  *   - A pointer with a length points to that many bytes. A length of 0 goes with any pointer but NULL.
  *   - facts points to eight numbers.
@@ -26,37 +26,8 @@ extern "C" {
 #define SHEET_SCRATCH_LEN 2064
 #define SHEET_PASSWORD_MAX_LEN 1024
 
-/* Whether a workbook is locked, by its first 1,048,576 bytes at most.
- *
- * Answers 0 unknown (no workbook stream, or cut before it can be told), 1 no, 2 yes.
- * All eight facts are written, whatever the answer. On yes: facts[0] is 1 if the lock is XOR; facts[1] is 1 if
- * the lock's version is there, then facts[2] is its major and facts[3] its minor number; facts[4] is the key size
- * in bits that the lock states, 0 for none. All others are 0. */
-uint32_t sheet_look(const uint8_t *stream, size_t stream_len, uint64_t facts[8]);
-
-/* Whether two workbooks have the same lock, as far as sheet_look tells: both are locked, and XOR mark, version
- * and key size agree. */
-bool sheet_same_lock(const uint8_t *a, size_t a_len, const uint8_t *b, size_t b_len);
-
-/* The record whose header is at an offset of a stream: to list the records, start at 0 and go on at at + 4 + facts[1].
- *
- * Answers 0 at the end of the stream or past it; 1 for a record, and then facts[0] is its id, facts[1] the length of its
- * body, and facts[2] how many of the body's first bytes stand in the clear in a locked workbook; 2 if a header or a body is cut
- * off, and then facts[0] is the header's offset. All eight facts are written; the others are 0. */
-uint32_t sheet_record(const uint8_t *stream, size_t stream_len, size_t at, uint64_t facts[8]);
-
-/* Opens a locked workbook stream.
- *
- * The password is UTF-8, without a terminating zero. The output has room for the stream; the plain stream has the
- * same length. All eight facts are written, whatever the answer.
- *
- * Answers 0 if the stream was opened. Then output[0 .. stream_len) is the plain stream and the rest of the output
- * is as it was. facts[0] is the number of records; facts[1] the lock: 0 XOR, 1 Office 97 RC4 (version 1.1),
- * 2 RC4 CryptoAPI; facts[2] the key size in bits: 0 for XOR, 40 for 1.1; facts[3] is 1 if the document summary
- * is sealed too. The others are 0.
- *
- * Any other answer is a refusal: the output is as it was, and facts[0] and facts[1] are its two details, 0 where
- * none is named.
+/* The refusals: a number, its words, and in brackets its details, which are facts[0] and facts[1] then, 0 where none is
+ * named. Each function that refuses says what it checks, and in what order.
  *
  *   1  the password is longer than 1,024 bytes
  *   2  the password is not well-formed UTF-8
@@ -86,9 +57,75 @@ uint32_t sheet_record(const uint8_t *stream, size_t stream_len, size_t at, uint6
  *  25  its salt is not 16 bytes                                       (the size)
  *  26  its verifier's hash is not 20 bytes                            (the size)
  *  27  the password does not pass
+ *  28  a sheet's entry names no sheet: a BoundSheet8 record's body    (the offset of the BoundSheet8 record's header)
+ *      is shorter than 4 bytes, or the start in it is no BOF record's header
+ *  29  BOF and EOF records do not pair up                             (the offset of the header of an EOF record with no
+ *      BOF open; or, if a BOF is left open at the end, the stream's length) */
+
+/* Whether a workbook is locked, by its first 1,048,576 bytes at most.
  *
- * The lowest number that applies is given, in this order. On 1 to 5 the scratch is as it was; otherwise its first
- * 2,064 bytes are zero afterwards, on success too, and the rest is as it was.
+ * Answers 0 unknown (no workbook stream, or cut before it can be told), 1 no, 2 yes.
+ * All eight facts are written, whatever the answer. On yes: facts[0] is 1 if the lock is XOR; facts[1] is 1 if
+ * the lock's version is there, then facts[2] is its major and facts[3] its minor number; facts[4] is the key size
+ * in bits that the lock states, 0 for none. All others are 0. */
+uint32_t sheet_look(const uint8_t *stream, size_t stream_len, uint64_t facts[8]);
+
+/* Whether two workbooks have the same lock, as far as sheet_look tells: both are locked, and XOR mark, version
+ * and key size agree. */
+bool sheet_same_lock(const uint8_t *a, size_t a_len, const uint8_t *b, size_t b_len);
+
+/* The record whose header is at an offset of a stream: to list the records, start at 0 and go on at at + 4 + facts[1].
+ *
+ * Answers 0 at the end of the stream or past it; 1 for a record, and then facts[0] is its id, facts[1] the length of its
+ * body, and facts[2] how many of the body's first bytes stand in the clear in a locked workbook; 2 if a header or a body is cut
+ * off, and then facts[0] is the header's offset. All eight facts are written; the others are 0. */
+uint32_t sheet_record(const uint8_t *stream, size_t stream_len, size_t at, uint64_t facts[8]);
+
+/* The directory of sheets: how many a workbook has, and where the one at a place starts.
+ *
+ * A sheet's entry is a BoundSheet8 record (id 0x0085), anywhere in the stream. Places count from 0, in the order of the
+ * entries. A sheet's start is the offset in the stream of its BOF record (id 0x0809), little-endian in the first four bytes
+ * of the entry's body. These stand in the clear in a locked workbook too: a stream that sheet_open opens is proved to have
+ * the same directory as its plain stream, so that a sheet can be picked before a password is typed.
+ *
+ * Answers 0 if the stream is in order. Then facts[0] is the number of sheets, whatever the place; facts[1] is 1 if there is
+ * a sheet at the place, which is so for every place below that number and for no other; and then facts[2] is its start.
+ *
+ * Any other answer is a refusal, and facts[0] is its detail. All eight facts are written, whatever the answer; the others
+ * are 0. Whatever the place, these are checked, in this order:
+ *
+ *   - 4, 6 and 7.
+ *   - 28, of the entries in stream order: the body has 4 bytes or more, and the start in it is the offset of a BOF record's
+ *     header, reached from offset 0 record by record. Any BOF record will do, the stream's first and a chart's too.
+ *   - 29: BOF and EOF records (id 0x000A) pair up like brackets over the whole stream, as charts stand inside sheets. Only
+ *     their ids count, whatever their bodies. The first EOF record with no BOF open is told; if there is none, a BOF that is
+ *     left open at the end.
+ *
+ * Every call reads the whole stream. To list all sheets, call once and take the starts from the entries themselves, which
+ * sheet_record finds.
+ *
+ * The time is linear in the stream's length where the starts rise from one entry to the next: two walks over its records
+ * where the entries stand ahead of the sheets, as in workbooks, and four at the most. Where a start is lower than the one before, the search goes back to the front of the stream, since no memory is
+ * asked for: the worst case is the number of such steps back times the number of records, and grows with the square of the
+ * length. A stream that is made to be slow takes up to a minute with a mebibyte, and would take more than a year with a
+ * gibibyte: a host should limit the length of streams that it does not trust. */
+uint32_t sheet_directory(const uint8_t *stream, size_t stream_len, size_t place, uint64_t facts[8]);
+
+/* Opens a locked workbook stream.
+ *
+ * The password is UTF-8, without a terminating zero. The output has room for the stream; the plain stream has the
+ * same length. All eight facts are written, whatever the answer.
+ *
+ * Answers 0 if the stream was opened. Then output[0 .. stream_len) is the plain stream and the rest of the output
+ * is as it was. facts[0] is the number of records; facts[1] the lock: 0 XOR, 1 Office 97 RC4 (version 1.1),
+ * 2 RC4 CryptoAPI; facts[2] the key size in bits: 0 for XOR, 40 for 1.1; facts[3] is 1 if the document summary
+ * is sealed too. The others are 0.
+ *
+ * Any other answer is a refusal, 1 to 27: the output is as it was, and facts[0] and facts[1] are its two details. The
+ * lowest number that applies is given.
+ *
+ * On 1 to 5 the scratch is as it was; otherwise its first 2,064 bytes are zero afterwards, on success too, and the rest
+ * is as it was.
  *
  * What the password was made into (digests, keys, RC4 tables; under XOR its own bytes too) also stands in the call's
  * stack frames and in registers, of which no proof can speak once the call has returned. A host that minds should

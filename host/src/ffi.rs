@@ -16,6 +16,13 @@ extern "C" {
         facts: *mut [u64; 8],
     ) -> u32;
 
+    pub fn sheet_directory(
+        stream: *const u8,
+        stream_len: usize,
+        place: usize,
+        facts: *mut [u64; 8],
+    ) -> u32;
+
     pub fn sheet_open(
         stream: *const u8,
         stream_len: usize,

@@ -1,4 +1,4 @@
-//! Protected Excel 97-2003 workbook streams: looking and opening.
+//! Protected Excel 97-2003 workbook streams: looking, opening, and the directory of sheets.
 //!
 //! A safe wrapper over `libsheet.a`, whose functions are proved to end, to do nothing undefined and
 //! to answer what the standards' definitions say. `include/sheet.h` is its C interface; the command
@@ -6,7 +6,8 @@
 //!
 //! The stream is the Workbook stream of an `.xls` file, taken out of its compound file (`gsf cat
 //! book.xls Workbook > book.bin`). [`look`] tells whether it is locked, [`same_lock`] whether two
-//! are locked alike, [`records`] lists its records, and [`open`] gives the plain stream:
+//! are locked alike, [`records`] lists its records, [`directory`] tells where its sheets start, and
+//! [`open`] gives the plain stream:
 //!
 //! ```
 //! # fn main() -> Result<(), Box<dyn std::error::Error>> {
@@ -37,6 +38,7 @@
 #[cfg(not(target_arch = "x86_64"))]
 compile_error!("libsheet.a is for x86-64");
 
+mod directory;
 mod ffi;
 mod open;
 mod records;
@@ -44,6 +46,7 @@ mod refusal;
 mod secret;
 mod verdict;
 
+pub use directory::{directory, Directory};
 pub use open::{open, Lock, Report, PASSWORD_MAX_LEN, SCRATCH_LEN, STREAM_MAX_LEN};
 pub use records::{records, Fault, Record, Records};
 pub use refusal::{Refusal, REFUSALS};

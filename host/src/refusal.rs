@@ -1,15 +1,15 @@
-//! Why a stream was not opened.
+//! Why a stream was refused.
 
 use std::error::Error;
 use std::fmt;
 
 /// How many refusals there are: their numbers are 1 to this.
-pub const REFUSALS: u32 = 27;
+pub const REFUSALS: u32 = 29;
 
 /// The id of the WriteProtect record.
 const WRITE_PROTECT: u64 = 0x0086;
 
-/// Why a stream was not opened: a number of the list in `include/sheet.h`, and up to two details.
+/// Why a stream was refused: a number of the list in `include/sheet.h`, and up to two details.
 ///
 /// `Display` says what is wrong, where, and what to try:
 ///
@@ -26,12 +26,12 @@ pub struct Refusal {
 }
 
 impl Refusal {
-    /// The refusal that `sheet_open` answers by a number and two details.
+    /// The refusal that the library answers by a number and two details.
     pub fn new(number: u32, details: [u64; 2]) -> Self {
         Refusal { number, details }
     }
 
-    /// Its number, 1 to 27.
+    /// Its number, 1 to 29.
     pub fn number(&self) -> u32 {
         self.number
     }
@@ -89,6 +89,11 @@ impl Refusal {
             25 => "the CryptoAPI lock's salt does not have 16 bytes",
             26 => "the CryptoAPI lock's verifier hash does not have 20 bytes",
             27 => "the password does not pass",
+            28 => {
+                "a sheet's entry names no sheet, as its BoundSheet8 record's body is shorter than 4 \
+                 bytes or the start in it is no BOF record's header"
+            }
+            29 => "BOF and EOF records do not pair up",
             _ => "a refusal that this version has no words for",
         }
     }
@@ -134,6 +139,10 @@ impl Refusal {
                 "check upper and lower case, the keyboard layout, accents and special characters; \
                  an XOR lock takes 1 to 15 characters, none beyond U+00FF"
             }
+            28 | 29 => {
+                "the stream is damaged: open the book in a spreadsheet program and save it anew, \
+                 or get another copy"
+            }
             _ => "look the number up in the documentation of the library that was linked",
         }
     }
@@ -156,6 +165,12 @@ impl Refusal {
             21 => write!(f, ": AlgID {first:08x}"),
             22 => write!(f, ": AlgIDHash {first:08x}"),
             16 | 23 | 25 | 26 => write!(f, ": it says {first}"),
+            28 => write!(f, ": the record at offset {first}"),
+            29 => write!(
+                f,
+                ": at offset {first}, where an EOF record closes no BOF or, if that is the end of \
+                 the stream, a BOF is left open"
+            ),
             1..=5 | 7 | 8 | 27 => Ok(()),
             _ => write!(f, ": details {first} and {second}"),
         }

@@ -1,5 +1,5 @@
 //! Every function through the wrapper, on buffers of every length around each limit, with guard
-//! bytes around each buffer.
+//! bytes around each buffer. The directory has its own tests, in directory.rs.
 
 mod common;
 

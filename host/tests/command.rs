@@ -97,6 +97,81 @@ fn list_ends_at_a_record_that_is_cut_off() {
 }
 
 #[test]
+fn directory_lists_the_sheets() {
+    let bench = Bench::new();
+    bench.write("plain", &bench.plain());
+    for name in ["calibres.bin", "plain"] {
+        let ran = bench.run(&format!("directory {name}"));
+        let told = (ran.status, &ran.out[..], &ran.err[..]);
+        assert_eq!(told, (Some(0), "place\tstart\n0\t170\n", ""));
+    }
+    for kind in KINDS {
+        for (sheets, falling) in [(0, false), (1, false), (300, false), (300, true)] {
+            let order = |place: usize| match falling {
+                true => sheets - 1 - place,
+                false => place,
+            };
+            let (book, starts) = Book::of_sheets(kind, &vec![8; sheets], order);
+            let lines = starts.iter().enumerate();
+            let lines = lines.map(|(place, start)| format!("{place}\t{start}\n"));
+            let expected = format!("place\tstart\n{}", lines.collect::<String>());
+            bench.write("book", &book.locked);
+            bench.write("plain", &book.plain);
+            for ran in [
+                bench.run("directory book"),
+                bench.run("directory plain"),
+                bench.run_on("directory -", bench.file("book")),
+            ] {
+                let told = (ran.status, &ran.out[..], &ran.err[..]);
+                assert_eq!(told, (Some(0), &expected[..], ""));
+            }
+        }
+    }
+    bench.has_only(&["book", "plain"]);
+}
+
+#[test]
+fn directory_refuses_by_number() {
+    let bench = Bench::new();
+    let locked = bench.read("calibres.bin");
+    let mut moved = locked.clone();
+    moved[150] = 166;
+    for (stream, words) in [
+        (
+            locked[..1000].to_vec(),
+            "refused, 6: a record can't be read, its header or its body is cut off, at offset ",
+        ),
+        (
+            Vec::new(),
+            "refused, 7: the stream does not start with a BOF record; this is not a workbook ",
+        ),
+        (
+            moved,
+            "refused, 28: a sheet's entry names no sheet, as its BoundSheet8 record's body is \
+             shorter than 4 bytes or the start in it is no BOF record's header: the record at \
+             offset 146; the stream is damaged: ",
+        ),
+        (
+            locked[..3431].to_vec(),
+            "refused, 29: BOF and EOF records do not pair up: at offset 3431, where an EOF record \
+             closes no BOF or, if that is the end of the stream, a BOF is left open; the stream is \
+             damaged: ",
+        ),
+        (
+            [&locked[..], &locked[3431..]].concat(),
+            "refused, 29: BOF and EOF records do not pair up: at offset 3435, ",
+        ),
+    ] {
+        bench.write("book", &stream);
+        let ran = bench.run("directory book");
+        ran.failed(1, &["\nsheet: the sheets of book were not listed\n"]);
+        assert!(ran.err.starts_with(words), "{}", ran.err);
+        assert_eq!(ran.err.lines().count(), 2);
+    }
+    bench.has_only(&["book"]);
+}
+
+#[test]
 fn open_writes_the_plain_stream() {
     let bench = Bench::new();
     let ran = bench.run("open calibres.bin -o plain --password-file calibres.password");
@@ -239,7 +314,7 @@ fn no_terminal_and_no_password() {
 fn files_that_can_t_be_read() {
     let bench = Bench::new();
     fs::create_dir(bench.folder.join("drawer")).unwrap();
-    for command in ["look", "list", "open -o plain"] {
+    for command in ["look", "list", "directory", "open -o plain"] {
         bench
             .run_with(&format!("{command} drawer"), PASSWORD)
             .failed(2, &["sheet: drawer: ", "folder"]);
@@ -265,7 +340,7 @@ fn files_that_can_t_be_read() {
 fn compound_files_are_told_from_streams() {
     let bench = Bench::new();
     bench.write("book.xls", b"\xD0\xCF\x11\xE0\xA1\xB1\x1A\xE1 and more");
-    for command in ["look", "list", "open -o plain"] {
+    for command in ["look", "list", "directory", "open -o plain"] {
         let ran = bench.run_with(&format!("{command} book.xls"), PASSWORD);
         ran.failed(
             2,
@@ -417,8 +492,9 @@ fn mistakes_in_the_arguments() {
     let bench = Bench::new();
     let password = "not taken as an argument";
     for (line, words) in [
-        ("", "look, list, open or refusals"),
+        ("", "look, list, directory, open or refusals"),
         ("opne calibres.bin", "'opne'"),
+        ("directory calibres.bin 0", "'0'"),
         ("open calibres.bin", "-o"),
         ("open -o plain", "name of a file"),
         ("open calibres.bin -o plain --password Geheim", password),
@@ -443,6 +519,7 @@ fn help_and_version() {
         for words in [
             "sheet look FILE",
             "sheet list FILE",
+            "sheet directory FILE",
             "sheet open FILE -o OUT",
             "sheet refusals",
             "--password-file",

@@ -1,4 +1,4 @@
-//! The C example, compiled as a C host would compile it, and run.
+//! The C example and a smaller program, compiled as a C host would compile them, and run.
 
 mod common;
 
@@ -6,6 +6,7 @@ use std::fs::{self, File};
 use std::path::{Path, PathBuf};
 use std::process::{Command, Output, Stdio};
 
+use common::book::{Book, Kind};
 use common::folder::Folder;
 use common::process;
 
@@ -14,12 +15,12 @@ fn file(path: &str) -> PathBuf {
     Path::new(env!("CARGO_MANIFEST_DIR")).join(path)
 }
 
-fn compile(folder: &Folder, level: &str) -> PathBuf {
-    let program = folder.join(&format!("embed{level}"));
+fn compile(folder: &Folder, source: &Path, level: &str) -> PathBuf {
+    let program = folder.join(&format!("program{level}"));
     let mut gcc = Command::new("gcc");
     gcc.args(["-Wall", "-Wextra", "-Werror", level, "-Wl,-z,now", "-I"])
         .arg(file("../include"))
-        .arg(file("examples/embed.c"))
+        .arg(source)
         .arg(env!("SHEET_LINKED_ARCHIVE"))
         .arg("-o")
         .arg(&program)
@@ -49,7 +50,7 @@ fn the_c_example_opens_the_sample() {
     let bytes = fs::read(&stream).unwrap();
     let cut = folder.write("cut", &bytes[..100]);
     for level in ["-O0", "-O2"] {
-        let program = compile(&folder, level);
+        let program = compile(&folder, &file("examples/embed.c"), level);
 
         let opened = run(&program, &stream, &password);
         assert_eq!(opened.status.code(), Some(0));
@@ -70,5 +71,53 @@ fn the_c_example_opens_the_sample() {
             assert_eq!(unread.status.code(), Some(2));
             assert!(words(&unread.stderr).starts_with("usage: "));
         }
+    }
+}
+
+/// Prints the answer and all eight facts of the directory at a place, for a stream from standard
+/// input.
+const DIRECTORY: &str = r#"
+#include <stdio.h>
+#include <stdlib.h>
+#include "sheet.h"
+
+static uint8_t stream[1 << 16];
+
+int main(int count, char **arguments)
+{
+    uint64_t facts[8] = {9, 9, 9, 9, 9, 9, 9, 9};
+    size_t len = fread(stream, 1, sizeof stream, stdin);
+    size_t place = count == 2 ? strtoull(arguments[1], NULL, 10) : 0;
+    printf("%u:", sheet_directory(stream, len, place, facts));
+    for (int k = 0; k < 8; k++)
+        printf(" %llu", (unsigned long long)facts[k]);
+    return 0;
+}
+"#;
+
+#[test]
+fn a_c_program_reads_the_directory() {
+    let folder = Folder::new();
+    let source = folder.write("directory.c", DIRECTORY.as_bytes());
+    let (book, starts) = Book::of_sheets(Kind::Office97, &[9, 0, 70], |place| 2 - place);
+    let stream = folder.write("book", &book.locked);
+    let open = folder.write("open", &book.locked[..book.locked.len() - 4]);
+    for level in ["-O0", "-O2"] {
+        let program = compile(&folder, &source, level);
+        let told = |stream: &Path, place: usize| {
+            let mut command = Command::new(&program);
+            command.arg(place.to_string());
+            let ran = process::run(command.stdin(File::open(stream).unwrap()));
+            assert_eq!((ran.status.code(), words(&ran.stderr)), (Some(0), ""));
+            words(&ran.stdout).to_string()
+        };
+        for (place, start) in starts.iter().enumerate() {
+            assert_eq!(told(&stream, place), format!("0: 3 1 {start} 0 0 0 0 0"));
+        }
+        for place in [3, usize::MAX] {
+            assert_eq!(told(&stream, place), "0: 3 0 0 0 0 0 0 0");
+        }
+        let len = book.locked.len() - 4;
+        assert_eq!(told(&open, 0), format!("29: {len} 0 0 0 0 0 0 0"));
     }
 }

@@ -194,18 +194,21 @@ fn rust_functions(path: &str) -> Vec<Function> {
 fn header_rattle_and_rust_declare_the_same() {
     let rattle = rattle_functions();
     let names: Vec<&str> = rattle.iter().map(|function| &function.name[..]).collect();
-    let four = [
+    let five = [
         "sheet_look",
         "sheet_same_lock",
         "sheet_record",
+        "sheet_directory",
         "sheet_open",
     ];
-    assert_eq!(names, four);
-    assert_eq!(rattle[3].parameters.len(), 9);
+    assert_eq!(names, five);
+    assert_eq!(rattle[3].parameters.len(), 4);
+    assert_eq!(rattle[4].parameters.len(), 9);
     assert_eq!(header_functions(), rattle);
     assert_eq!(rust_functions("src/ffi.rs"), rattle);
-    // The test of the stack calls without the wrapper.
-    assert_eq!(rust_functions("tests/machine_stack.rs")[..], rattle[3..]);
+    // These tests call without the wrapper.
+    assert_eq!(rust_functions("tests/directory.rs")[..], rattle[3..4]);
+    assert_eq!(rust_functions("tests/machine_stack.rs")[..], rattle[4..]);
 }
 
 #[test]
@@ -246,8 +249,7 @@ fn the_constants_agree() {
 /// The header's list of refusals: number and words.
 fn header_refusals() -> Vec<(u32, String)> {
     let header = text("../include/sheet.h");
-    let (_, list) = header.split_once("Any other answer is a refusal").unwrap();
-    let (list, _) = list.split_once("The lowest number that applies").unwrap();
+    let (list, _) = between(&header, "/* The refusals: ", "*/").expect("a list of refusals");
     list.lines()
         .filter_map(|line| {
             let (number, words) = line.strip_prefix(" *")?.trim().split_once("  ")?;
@@ -261,13 +263,13 @@ fn every_refusal_has_words() {
     let header = header_refusals();
     let numbers: Vec<u32> = header.iter().map(|(number, _)| *number).collect();
     let all: Vec<u32> = (1..=sheet::REFUSALS).collect();
-    assert_eq!(all.len(), 27);
+    assert_eq!(all.len(), 29);
     assert_eq!(numbers, all);
     let mut refusals = Command::new(env!("CARGO_BIN_EXE_sheet"));
     let ran = run(refusals.arg("refusals").stdin(Stdio::null()));
     assert!(ran.status.success());
     let table = String::from_utf8(ran.stdout).unwrap();
-    assert_eq!(table.lines().count(), 27);
+    assert_eq!(table.lines().count(), 29);
     let unknown = Refusal::new(99, [0, 0]);
     for (line, (number, words)) in table.lines().zip(&header) {
         assert!(words.len() > 10, "sheet.h: {number} {words}");
@@ -284,7 +286,7 @@ fn every_refusal_has_words() {
 
 #[test]
 fn every_detail_is_said() {
-    // The details that document 01 names, with the words that they are said in.
+    // The details that documents 01 and 02 name, with the words that they are said in.
     for (number, details, words) in [
         (6, [3412, 0], "at offset 3412"),
         (9, [0x42, 0], "id 0042"),
@@ -310,6 +312,8 @@ fn every_detail_is_said() {
         (24, [59, 60], "59 of 60 bytes are there"),
         (25, [17, 0], "17"),
         (26, [16, 0], "16"),
+        (28, [146, 0], "the record at offset 146"),
+        (29, [3431, 0], "at offset 3431, where an EOF record"),
     ] {
         let refusal = Refusal::new(number, details);
         let said = refusal.to_string();
@@ -366,6 +370,22 @@ fn the_words_say_what_to_try() {
                 "15 characters",
             ],
         ),
+        (
+            28,
+            146,
+            &[
+                "BoundSheet8",
+                "4 bytes",
+                "BOF",
+                "offset 146",
+                "save it anew",
+            ],
+        ),
+        (
+            29,
+            3431,
+            &["BOF and EOF", "pair up", "left open", "save it anew"],
+        ),
     ] {
         let said = Refusal::new(number, [detail, 0]).to_string();
         for word in words {
@@ -377,6 +397,6 @@ fn the_words_say_what_to_try() {
     assert!(Refusal::new(9, [0x86, 0]).is_write_protect());
     assert!(!Refusal::new(9, [0x42, 0]).is_write_protect());
     // A number of a later library is still said.
-    let later = Refusal::new(28, [5, 6]).to_string();
-    assert!(later.starts_with("refused, 28: ") && later.contains("details 5 and 6"));
+    let later = Refusal::new(30, [5, 6]).to_string();
+    assert!(later.starts_with("refused, 30: ") && later.contains("details 5 and 6"));
 }

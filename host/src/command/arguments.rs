@@ -17,6 +17,9 @@ pub enum Order {
     List {
         file: OsString,
     },
+    Directory {
+        file: OsString,
+    },
     Open {
         file: OsString,
         out: OsString,
@@ -51,15 +54,17 @@ struct Given {
 pub fn parse(arguments: impl Iterator<Item = OsString>) -> Result<Order, Failure> {
     let mut rest = arguments;
     let Some(command) = rest.next() else {
-        return Err(usage("say what to do: sheet look, list, open or refusals"));
+        return Err(usage(
+            "say what to do: sheet look, list, directory, open or refusals",
+        ));
     };
     let given = match command.to_str() {
         Some("--help" | "-h" | "help") => return Ok(Order::Help),
         Some("--version" | "-V") => return Ok(Order::Version),
-        Some("look" | "list" | "open" | "refusals") => Given::read(rest)?,
+        Some("look" | "list" | "directory" | "open" | "refusals") => Given::read(rest)?,
         _ => {
             return Err(usage(&format!(
-                "there is no command '{}': look, list, open and refusals are",
+                "there is no command '{}': look, list, directory, open and refusals are",
                 command.to_string_lossy()
             )))
         }
@@ -73,6 +78,9 @@ pub fn parse(arguments: impl Iterator<Item = OsString>) -> Result<Order, Failure
         }),
         Some("list") => Ok(Order::List {
             file: given.only_file("list")?,
+        }),
+        Some("directory") => Ok(Order::Directory {
+            file: given.only_file("directory")?,
         }),
         Some("open") => given.open(),
         _ => match given.files.first() {
@@ -235,6 +243,9 @@ mod tests {
         assert_eq!(parsed("look a"), Ok(Order::Look { file: "a".into() }));
         assert_eq!(parsed("list -"), Ok(Order::List { file: "-".into() }));
         assert_eq!(parsed("list -- -a"), Ok(Order::List { file: "-a".into() }));
+        let directory = |file: &str| Ok(Order::Directory { file: file.into() });
+        assert_eq!(parsed("directory a"), directory("a"));
+        assert_eq!(parsed("directory -"), directory("-"));
         assert_eq!(parsed("refusals"), Ok(Order::Refusals));
         for line in [
             "--help",
@@ -242,6 +253,7 @@ mod tests {
             "help",
             "open --help",
             "look -h",
+            "directory --help",
             "refusals --help",
         ] {
             assert_eq!(parsed(line), Ok(Order::Help), "{line}");
@@ -267,12 +279,16 @@ mod tests {
     #[test]
     fn what_is_wrong_is_named() {
         for (line, word) in [
-            ("", "look, list, open or refusals"),
+            ("", "look, list, directory, open or refusals"),
             ("opne a", "'opne'"),
+            ("opne a", "look, list, directory, open and refusals"),
             ("look", "name of a file"),
             ("look a b", "'b'"),
             ("look a -o b", "neither -o"),
             ("list --password-file p a", "neither -o"),
+            ("directory", "name of a file"),
+            ("directory a 1", "'1'"),
+            ("directory a -o b", "'sheet directory' takes neither -o"),
             ("refusals 3", "'3'"),
             ("open a", "needs -o"),
             ("open a -o", "-o needs"),

@@ -8,7 +8,7 @@ use sheet::Refusal;
 /// Why the command did not do what was asked.
 #[derive(Debug)]
 pub enum Failure {
-    /// The library refused to open a stream, which is named.
+    /// The library refused a stream. The words say what was not done.
     Refused(Refusal, String),
     /// The listing ended at a record that can't be read.
     Unreadable(String),
@@ -91,9 +91,7 @@ impl Failure {
     /// What is said of it.
     pub fn words(&self) -> String {
         match self {
-            Failure::Refused(refusal, name) => {
-                format!("{refusal}\nsheet: {name} was not opened, and nothing was written")
-            }
+            Failure::Refused(refusal, words) => format!("{refusal}\nsheet: {words}"),
             Failure::Unreadable(words) | Failure::Other(words) => format!("sheet: {words}"),
             Failure::ReaderGone => String::new(),
         }

@@ -1,10 +1,12 @@
 //! What `sheet --help` prints.
 
 pub const HELP: &str = "\
-sheet: looks at and opens protected Excel 97-2003 workbooks
+sheet: looks at, lists and opens protected Excel 97-2003 workbooks
 
   sheet look FILE            tells whether the workbook is locked, and how
   sheet list FILE            lists its records
+  sheet directory FILE       lists its sheets and where they start, which takes
+                             no password
   sheet open FILE -o OUT     opens it with its password, and writes the plain
                              stream to OUT
   sheet refusals             tells what each number of a refusal means, and
@@ -48,6 +50,10 @@ PRINTED, with a tab between the columns:
   list    at: the offset of the record; id, hexadecimal; length of its body;
           clear: how many of the body's first bytes are never enciphered. If a
           record can't be read, a last line says unreadable, and its offset
+  directory
+          place: of the sheet in the workbook, counted from 0; start: the
+          offset of its BOF record in FILE. A FILE that is made to be slow can
+          keep this busy for very long: ctrl-C ends it, nothing is written
   open    records: how many; lock; key size in bits; summary sealed: whether
           the document summary, outside of this stream, is enciphered too. If
           OUT is - this goes to standard error
@@ -55,8 +61,9 @@ PRINTED, with a tab between the columns:
 EXIT STATUS
 
   0       done; for look, whatever the answer
-  1       open was refused: standard error says 'refused, NUMBER:' and why, and
-          OUT is not written; or list found a record that can't be read
+  1       open or directory was refused: standard error says 'refused, NUMBER:'
+          and why, and OUT is not written; or list found a record that can't be
+          read
   2       the arguments, the input or the output are at fault: standard error
           says which, and what to try
 

@@ -19,6 +19,9 @@ use input::Input;
 use output::Output;
 use sheet::{Lock, Refusal, Report, Verdict};
 
+/// The id of a BoundSheet8 record, a sheet's entry: its body begins with the sheet's start.
+const BOUND_SHEET: u16 = 0x0085;
+
 /// Does what the arguments ask and tells the exit status.
 pub fn run(arguments: impl Iterator<Item = OsString>) -> ExitCode {
     interrupt::ignore_file_size_signal();
@@ -39,6 +42,7 @@ fn obey(order: Order) -> Result<(), Failure> {
             print(|out| write_verdict(out, verdict))
         }
         Order::List { file } => list(&Input::read(&file)?),
+        Order::Directory { file } => directory(&Input::read(&file)?),
         Order::Open {
             file,
             out,
@@ -130,12 +134,42 @@ fn list(input: &Input) -> Result<(), Failure> {
     }
 }
 
+/// Lists the sheets, a line for each. One call sees that all entries are in order; the starts are
+/// then read from the entries, as each further call would read the whole stream again.
+fn directory(input: &Input) -> Result<(), Failure> {
+    let stream = &input.stream[..];
+    let told = sheet::directory(stream, 0).map_err(|refusal| {
+        Failure::Refused(
+            refusal,
+            format!("the sheets of {} were not listed", input.name),
+        )
+    })?;
+    let starts: Vec<_> = sheet::records(stream)
+        .filter_map(Result::ok)
+        .filter(|record| record.id == BOUND_SHEET)
+        .filter_map(|entry| stream[entry.body()].first_chunk().copied())
+        .map(u32::from_le_bytes)
+        .collect();
+    // None is left out above, or every place behind it would be another sheet's.
+    assert_eq!(starts.len(), told.sheets);
+    print(|out| {
+        writeln!(out, "place\tstart")?;
+        for (place, start) in starts.iter().enumerate() {
+            writeln!(out, "{place}\t{start}")?;
+        }
+        Ok(())
+    })
+}
+
 /// Opens a stream and writes the plain one. What can be told without the password is told before it
 /// is asked for.
 fn open(input: Input, out: &OsString, password_from: &PasswordFrom) -> Result<(), Failure> {
     let output = Output::prepare(out, &input)?;
     let stream = &input.stream[..];
-    let refused = |refusal| Failure::Refused(refusal, input.name.clone());
+    let refused = |refusal| {
+        let words = format!("{} was not opened, and nothing was written", input.name);
+        Failure::Refused(refusal, words)
+    };
     let mut scratch = [0; sheet::SCRATCH_LEN];
     let mut plain = output::room(stream.len())?;
     let report = {

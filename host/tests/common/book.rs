@@ -218,6 +218,39 @@ impl Book {
         Book::new(kind, kind.password(), &records)
     }
 
+    /// A book of sheets with rows of so many bytes each and a chart, and the starts that its entries
+    /// name: the entry at place k is that of sheet `order(k)`.
+    pub fn of_sheets(
+        kind: Kind,
+        rows: &[usize],
+        order: impl Fn(usize) -> usize,
+    ) -> (Book, Vec<usize>) {
+        let records = |starts: &[usize]| {
+            let mut records = vec![(BOF, vec![0, 6, 5, 0]), (FILEPASS, Vec::new())];
+            records.extend(starts.iter().map(|start| (BOUND_SHEET, entry(*start))));
+            records.push((EOF, Vec::new()));
+            for bytes in rows {
+                records.push((BOF, vec![0, 6, 16, 0]));
+                records.extend(filling(*bytes));
+                records.push((BOF, vec![0, 6, 32, 0]));
+                records.push((EOF, Vec::new()));
+                records.push((EOF, Vec::new()));
+            }
+            records
+        };
+        // Whatever an entry names, it has the same length.
+        let all = records(&vec![0; rows.len()]);
+        let book = Book::new(kind, kind.password(), &all);
+        let sheets: Vec<usize> = all
+            .iter()
+            .zip(&book.headers)
+            .filter(|((id, body), _)| *id == BOF && body[2] == 16)
+            .map(|(_, at)| *at)
+            .collect();
+        let starts: Vec<usize> = (0..rows.len()).map(|place| sheets[order(place)]).collect();
+        (Book::new(kind, kind.password(), &records(&starts)), starts)
+    }
+
     /// The first FILEPASS: the offsets of its header and of its body's end.
     pub fn filepass(&self) -> (usize, usize) {
         (self.headers[2], self.headers[3])
@@ -241,6 +274,34 @@ pub fn header(id: u16, len: usize) -> Vec<u8> {
     [id, u16::try_from(len).unwrap()]
         .map(u16::to_le_bytes)
         .concat()
+}
+
+/// The stream of some records, not locked.
+pub fn joined(records: &[(u16, Vec<u8>)]) -> Vec<u8> {
+    records
+        .iter()
+        .flat_map(|(id, body)| [header(*id, body.len()), body.clone()].concat())
+        .collect()
+}
+
+/// The body of a BoundSheet8 record: a start, and a name.
+pub fn entry(start: usize) -> Vec<u8> {
+    [
+        &u32::try_from(start).unwrap().to_le_bytes()[..],
+        b"\0\0\x05\0Werke",
+    ]
+    .concat()
+}
+
+/// Rows of so many bytes in all, none or more than three.
+fn filling(mut bytes: usize) -> Vec<(u16, Vec<u8>)> {
+    let mut rows = Vec::new();
+    while bytes > 0 {
+        let len = if bytes < 40 { bytes } else { 20 };
+        rows.push((0x0204, vec![rows.len() as u8; len - 4]));
+        bytes -= len;
+    }
+    rows
 }
 
 pub fn clear_len(id: u16, len: usize) -> usize {
