@@ -1,5 +1,6 @@
 /* Times the proved hashes, RC4 and XOR obfuscation beside plain C and OpenSSL, in one run, on the same bytes. Each figure is the best of
    several rounds in which the candidates take turns. What they compute is compared first. */
+#include "common.h"
 #include <openssl/md5.h>
 #include <openssl/rc4.h>
 #include <openssl/sha.h>
@@ -9,7 +10,6 @@
 #include <stdio.h>
 #include <stdlib.h>
 #include <string.h>
-#include <time.h>
 
 void bench_sha1(const uint8_t *m, size_t len, uint8_t out[20]);
 void bench_md5(const uint8_t *m, size_t len, uint8_t out[16]);
@@ -28,13 +28,6 @@ PLAIN(llvm_)
 enum { SIZE = 16 << 20, LARGE = 64 << 20, ROUNDS = 9, SHORT = 24, SHORTS = 1 << 17, PIECE = 2048, RECORD = 20, RECORDS = 1 << 17 };
 static uint8_t *data, *out[4], digest[4][20];
 static const uint8_t key[16] = "a key of sixteen", other[16] = "sixteen of a key";
-
-static double now(void)
-{
-    struct timespec t;
-    clock_gettime(CLOCK_MONOTONIC, &t);
-    return t.tv_sec + t.tv_nsec * 1e-9;
-}
 
 static void sha1_by(int who, const uint8_t *m, size_t len)
 {

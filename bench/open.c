@@ -3,6 +3,7 @@
    into the stack a call goes, by painting it, and asks question 4 on both sides of its boundary. */
 #define _GNU_SOURCE
 #include "../include/sheet.h"
+#include "common.h"
 #include <openssl/md5.h>
 #include <openssl/rc4.h>
 #include <openssl/sha.h>
@@ -12,7 +13,6 @@
 #include <stdlib.h>
 #include <string.h>
 #include <sys/mman.h>
-#include <time.h>
 
 #define PLAIN(p) \
     size_t p##open(const uint8_t *stream, size_t len, const uint8_t *password, size_t password_len, uint8_t *out); \
@@ -24,19 +24,6 @@ enum { SIZE = 64 << 20, ROUNDS = 7, STACK = 1 << 20, PAINT = 0xa5 };
 static const uint8_t password[] = "lift angle 50";
 enum { PASSWORD_LEN = sizeof password - 1 };
 static uint8_t *plain, *stream, *out[3], scratch[2064];
-
-static double now(void)
-{
-    struct timespec t;
-    clock_gettime(CLOCK_MONOTONIC, &t);
-    return t.tv_sec + t.tv_nsec * 1e-9;
-}
-
-static void put(uint8_t *p, size_t n, uint64_t x)
-{
-    for (size_t i = 0; i < n; i++)
-        p[i] = (uint8_t)(x >> 8 * i);
-}
 
 /* the key of a block, as document 01 writes it */
 static void key_of(int lock, uint32_t block, const uint8_t salt[16], uint8_t key[20])

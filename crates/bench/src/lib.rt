@@ -1,4 +1,4 @@
-// C exports of the hashes, of RC4 and of XOR obfuscation for the benchmark in bench/.
+// C exports of the hashes, of RC4, of XOR obfuscation and of the walk for the benchmark in bench/.
 ghost use mathlib.Core.Path.{_≡_};
 ghost use mathlib.Core.Bool.{_&&_};
 ghost use Rattle.laws.specs.Choice.{pick};
@@ -6,6 +6,8 @@ ghost use Rattle.rc4.specs.Rc4.{made, enciphered, encipheredHalves};
 ghost use Rattle.sha1.specs.Sha1.{sha1};
 ghost use Rattle.md5.specs.Md5.{md5};
 ghost use Rattle.xor_obfuscation.specs.Xor.{Deciphers};
+ghost use Rattle.binary_office.specs.Walk.{walk};
+ghost use lib.ListN.{length};
 use rc4::Keystream;
 
 // The SHA-1 digest of a message.
@@ -62,4 +64,13 @@ pub extern "C" fn bench_xor(array: &[u8; 16], index: usize, src: &[u8], dst: &mu
     ensures { λ _. ⌜ Deciphers (now (array .entry)) index (now (src .entry)) (now (dst .entry)) (now (dst .exit)) ⌝ }
 {
     xor_obfuscation::decrypt(array, index, src, dst);
+}
+
+// How many records a stream has, by the walk alone.
+#[no_mangle]
+pub extern "C" fn bench_walk(stream: &[u8]) -> usize
+    ensures { λ r. ⌜ r ≡ length (walk (now (stream .entry)) .records) ⌝ }
+{
+    let walked = binary_office::walk(stream);
+    walked.records
 }
