@@ -3,16 +3,18 @@
 -- Assumes nothing.
 use mathlib.Core.Path.{_≡_, refl, sym, ap, _∙_}
 use mathlib.Core.List.{List}
-use mathlib.Core.Bool.{true, false}
+use mathlib.Core.Bool.{Bool, true, false}
 use Prim.Native.Nat.{ℕ, zero, suc, _+_, _%_, _≤_, _<_, min}
 use native.Mathlib.Nat.{add-comm, add-zero, add-suc, mod-eq-of-lt}
 use native.Mathlib.Numerals.{add-one}
 use native.Mathlib.Omega.{arith}
 use lib.ListN.{length, getD, set, length-set}
 use lib.Seq.{getD-set-same, getD-set-other}
-use Rattle.laws.proofs.Choice.{same-or, stop, skip, within-yes, within-low, within-high}
+use Rattle.laws.specs.Choice.{pick, within}
+use Rattle.laws.proofs.Choice.{same-or, stop, skip, within-yes, within-from, within-to}
 use Rattle.laws.proofs.Written.{Written, written-all}
 use Rattle.rc4.specs.declared.Keystream.{Keystream}
+use Rattle.rc4.specs.declared.Made.{Made}
 use Rattle.rc4.specs.Rc4.{identity, swap, mix, mixing, keyed, made, next, given, after, byteFrom, applied, Applies}
 
 pub length-swap : (t : List ℕ) (i j : ℕ) → length (swap t i j) ≡ length t
@@ -71,17 +73,36 @@ applies k k₀ s d t d′ i j n m s₀ em en hi hj e w =
     }
 
 -- what making a keystream answers, by the key's length
-pub made-short : (key : List ℕ) → length key < 5 → record { ok = false; keystream = record { table = identity; i = 0; j = 0 } } ≡ made key
-unfolding made
-made-short key h = skip _ (within-low 5 16 (length key) h) refl
-
-pub made-long : (key : List ℕ) → 16 < length key → record { ok = false; keystream = record { table = identity; i = 0; j = 0 } } ≡ made key
-unfolding made
-made-long key h = skip _ (within-high 5 16 (length key) h) refl
-
 pub made-keyed : (key : List ℕ) → 5 ≤ length key → length key ≤ 16 → record { ok = true; keystream = record { table = mixing key 256 .table; i = 0; j = 0 } } ≡ made key
 unfolding made keyed
 made-keyed key g h = stop _ (within-yes 5 16 (length key) g h)
+
+-- the table that the answer has, by whether the length fits
+pub table-mixed : (key : List ℕ) → within 5 16 (length key) ≡ true → mixing key 256 .table ≡ made key .keystream .table
+table-mixed key e = ap (λ (m : Made). m .keystream .table) (made-keyed key (within-from 5 16 (length key) e) (within-to 5 16 (length key) e))
+
+pub table-unmixed : (key : List ℕ) → within 5 16 (length key) ≡ false → identity ≡ made key .keystream .table
+unfolding made
+table-unmixed key e = ap (λ (m : Made). m .keystream .table) (skip _ e refl)
+
+-- the answer is put together from whether the length fits, the table, and both indices at 0
+pub made-of : (key t : List ℕ) (ok : Bool) → ok ≡ within 5 16 (length key) → t ≡ made key .keystream .table
+    → record { ok = ok; keystream = record { table = t; i = 0; j = 0 } } ≡ made key
+unfolding made keyed pick
+made-of key t ok e g = rw (g, e) (parts (within 5 16 (length key)))
+  where
+    answer : Bool → Made
+    answer fits = pick fits (record { ok = true; keystream = keyed key }) (record { ok = false; keystream = record { table = identity; i = 0; j = 0 } })
+
+    parts : (fits : Bool) → record { ok = fits; keystream = record { table = answer fits .keystream .table; i = 0; j = 0 } } ≡ answer fits
+    parts true = refl
+    parts false = refl
+
+-- a key that fits has bytes
+pub some-bytes : (key : List ℕ) → within 5 16 (length key) ≡ true → 0 < length key
+some-bytes key e =
+    let h = within-from 5 16 (length key) e in
+    omega arith
 
 -- a keystream that is taken up again where it stopped goes on as if unbroken
 pub after-after : (k : Keystream) (m n : ℕ) → after (after k m) n ≡ after k (m + n)

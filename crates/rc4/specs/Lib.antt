@@ -1,1 +1,3 @@
+pub mod KeyIndex
 pub mod Rc4
+pub mod Steps

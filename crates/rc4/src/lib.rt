@@ -1,10 +1,12 @@
 // The RC4 keystream: from the Rust source's rc4.rs, its `Keystream`. The source takes the cipher from a
 // library; this is written from document 01 and held against RFC 6229.
 ghost use mathlib.Core.Path.{_≡_};
-ghost use Prim.Native.Nat.{_%_, _<_, min};
+ghost use Prim.Native.Nat.{_+_, _<_, min};
 ghost use lib.ListN.{length};
 ghost use Rattle.laws.specs.Choice.{within};
 ghost use Rattle.rc4.specs.Rc4.{identity, mixing, made, Applies, AppliesHalves};
+ghost use Rattle.rc4.specs.KeyIndex.{followingIndex};
+ghost use Rattle.rc4.specs.Steps.{MixedTo};
 
 // A keystream under one key: the table, and the two indices into it.
 pub struct Keystream {
@@ -23,6 +25,12 @@ pub struct Made {
 pub struct Pair {
     pub first: Made,
     pub second: Made,
+}
+
+// The indices of a key's mixing: j, and the carried index of the key byte that is next.
+struct Indices {
+    j: usize,
+    index: usize,
 }
 
 // Two tables.
@@ -56,29 +64,45 @@ fn unmixed() -> [u8; 256]
     t
 }
 
-// Which byte of a key goes with an index of the table. Nearly all keys have 16 bytes, where it takes no
-// division.
-fn key_index(i: usize, len: usize) -> usize
-    requires { ⌜ 0 < len ⌝ }
-    ensures { λ r. ⌜ r ≡ i % len ⌝ }
+// The index that follows an index of a key: one more, and 0 at the key's end.
+fn following_index(index: usize, len: usize) -> usize
+    requires { ⌜ index < len ⌝ }
+    ensures { λ r. ⌜ r ≡ followingIndex len index ⌝ }
 {
-    if len == 16 { i % 16 } else { i % len }
+    if index == len - 1 { 0 } else { index + 1 }
 }
 
-// The table with the key mixed in.
+// A step of the key mixing: j gains entry i and the key byte at the carried index, and the entries i and j
+// swap.
+fn mix(t: &mut [u8], key: &[u8], i: usize, at: Indices) -> Indices
+    requires { ⌜ (i < 256) × MixedTo (now key) i at (now t) ⌝ }
+    ensures { λ r. ⌜ MixedTo (now (key .entry)) (i + 1) r (now (t .exit)) ⌝ }
+{
+    let index = at.index;
+    let a = t[i];
+    let j = (at.j + wide(a) + wide(key[index])) % 256;
+    t[i] = t[j];
+    t[j] = a;
+    Indices {
+        j,
+        index: following_index(index, key.len()),
+    }
+}
+
+// The table with the key mixed in. Four steps in each turn of the loop run faster than one.
 fn mixed(key: &[u8]) -> [u8; 256]
     requires { ⌜ 0 < length (now key) ⌝ }
     ensures { λ r. ⌜ r ≡ mixing (now (key .entry)) 256 .table ⌝ }
 {
     let mut t = unmixed();
     let mut i = 0;
-    let mut j = 0;
+    let mut at = Indices { j: 0, index: 0 };
     while i < 256 {
-        let a = t[i];
-        j = (j + wide(a) + wide(key[key_index(i, key.len())])) % 256;
-        t[i] = t[j];
-        t[j] = a;
-        i += 1;
+        at = mix(&mut t, key, i, at);
+        at = mix(&mut t, key, i + 1, at);
+        at = mix(&mut t, key, i + 2, at);
+        at = mix(&mut t, key, i + 3, at);
+        i += 4;
     }
     t
 }
@@ -91,22 +115,43 @@ fn mixed_both(key: &[u8], other: &[u8]) -> Tables
     let mut s = unmixed();
     let mut t = unmixed();
     let mut i = 0;
-    let mut j = 0;
-    let mut v = 0;
+    let mut first = Indices { j: 0, index: 0 };
+    let mut second = Indices { j: 0, index: 0 };
     while i < 256 {
-        let a = s[i];
-        j = (j + wide(a) + wide(key[key_index(i, key.len())])) % 256;
-        s[i] = s[j];
-        s[j] = a;
-        let b = t[i];
-        v = (v + wide(b) + wide(other[key_index(i, other.len())])) % 256;
-        t[i] = t[v];
-        t[v] = b;
+        first = mix(&mut s, key, i, first);
+        second = mix(&mut t, other, i, second);
         i += 1;
     }
     Tables {
         first: s,
         second: t,
+    }
+}
+
+// Whether a keystream is made from keys of a length.
+fn fits(len: usize) -> bool
+    ensures { λ r. ⌜ r ≡ within 5 16 len ⌝ }
+{
+    (Keystream::MIN_KEY_LEN <= len) & (len <= Keystream::MAX_KEY_LEN)
+}
+
+// The table that a key's keystream starts with: unmixed, for a key of another length.
+fn table_of(key: &[u8]) -> [u8; 256]
+    ensures { λ r. ⌜ r ≡ made (now (key .entry)) .keystream .table ⌝ }
+{
+    if fits(key.len()) {
+        return mixed(key);
+    }
+    unmixed()
+}
+
+// The answer with a keystream that starts with a table, both indices at 0.
+fn started(ok: bool, table: [u8; 256]) -> Made
+    ensures { λ r. ⌜ r ≡ record { ok = ok; keystream = record { table = table; i = 0; j = 0 } } ⌝ }
+{
+    Made {
+        ok,
+        keystream: Keystream { table, i: 0, j: 0 },
     }
 }
 
@@ -120,25 +165,7 @@ impl Keystream {
     pub fn new(key: &[u8]) -> Made
         ensures { λ r. ⌜ r ≡ made (now (key .entry)) ⌝ }
     {
-        if key.len() < Keystream::MIN_KEY_LEN {
-            let table = unmixed();
-            return Made {
-                ok: false,
-                keystream: Keystream { table, i: 0, j: 0 },
-            };
-        }
-        if Keystream::MAX_KEY_LEN < key.len() {
-            let table = unmixed();
-            return Made {
-                ok: false,
-                keystream: Keystream { table, i: 0, j: 0 },
-            };
-        }
-        let table = mixed(key);
-        Made {
-            ok: true,
-            keystream: Keystream { table, i: 0, j: 0 },
-        }
+        started(fits(key.len()), table_of(key))
     }
 
     // The bytes of src, exclusive-or the keystream, into dst, as many as both have room for. Gives
@@ -170,13 +197,6 @@ impl Keystream {
     }
 }
 
-// Whether a keystream is made from keys of a length.
-fn fits(len: usize) -> bool
-    ensures { λ r. ⌜ r ≡ within 5 16 len ⌝ }
-{
-    (Keystream::MIN_KEY_LEN <= len) & (len <= Keystream::MAX_KEY_LEN)
-}
-
 // The keystreams of two keys of 5 to 16 bytes, from their first bytes on.
 pub fn new_pair(key: &[u8], other: &[u8]) -> Pair
     ensures { λ r. ⌜ (r .first ≡ made (now (key .entry))) × (r .second ≡ made (now (other .entry))) ⌝ }
@@ -186,27 +206,13 @@ pub fn new_pair(key: &[u8], other: &[u8]) -> Pair
             let tables = mixed_both(key, other);
             let a = tables.first;
             let b = tables.second;
-            let first = Made {
-                ok: true,
-                keystream: Keystream {
-                    table: a,
-                    i: 0,
-                    j: 0,
-                },
-            };
-            let second = Made {
-                ok: true,
-                keystream: Keystream {
-                    table: b,
-                    i: 0,
-                    j: 0,
-                },
-            };
+            let first = started(true, a);
+            let second = started(true, b);
             return Pair { first, second };
         }
     }
-    let first = Keystream::new(key);
-    let second = Keystream::new(other);
+    let first = started(fits(key.len()), table_of(key));
+    let second = started(fits(other.len()), table_of(other));
     Pair { first, second }
 }
 

@@ -1,55 +1,50 @@
--- `rc4::mixed` meets its contract: after i turns the locals are the mixing after the first i values.
+-- `rc4::mixed` meets its contract: after i steps the locals are the mixing after the first i values.
 -- Assumes nothing.
 use borrow.Author.Needs.{needs}
-use mathlib.Core.Path.{_≡_, refl, ap}
+use mathlib.Core.Path.{_≡_, ap}
 use native.Mathlib.Omega.{arith}
-use Prim.Native.Nat.{_+_, _≤_, _<_, _-_, _%_}
-use native.Mathlib.Nat.{mod-lt}
-use lib.Dec.{lit<}
-use lib.ListN.{length, getD}
-use Rattle.rc4.specs.Rc4.{Mixing, mixing}
-use Rattle.rc4.proofs.Table.{mixing-none, mixing-more}
+use Prim.Native.Nat.{_+_, _≤_, _-_, _%_}
+use Rattle.rc4.specs.Rc4.{Mixing}
+use Rattle.rc4.specs.Steps.{MixedTo}
+use Rattle.rc4.proofs.Steps.{mixed-none}
 use Rattle.rc4.proofs.mixed.Statement.{statement}
 use Rattle.rc4.proofs.mixed.Tie as tie
 
 abbrev Inv-loop : tie.InvT-loop
-Inv-loop key t₀ i₀ j₀ t i j = (i ≤ 256) × (length t ≡ 256) × (j < 256) × (record { table = t; j = j } ≡ mixing key i)
+Inv-loop key t₀ i₀ at₀ t i at = (i ≤ 256) × (i % 4 ≡ 0) × MixedTo key i at t
 
 abbrev μ-loop : tie.MeasureT-loop
-μ-loop key t₀ i₀ j₀ t i j = 256 - i
+μ-loop key t₀ i₀ at₀ t i at = 256 - i
 
 loop-holds : tie.Need-loop-holds Inv-loop μ-loop
-loop-holds c =
-    let e = c .unmixed .ensures in
-    (search needs, search needs, search needs, rw e (mixing-none (c .before .before .args .key .now)))
+loop-holds c = (search needs, search needs, mixed-none _ _ (c .before .before .pre) (c .unmixed .ensures))
 
-shared-slice-read-wide : tie.Need-shared-slice-read-wide Inv-loop μ-loop
-shared-slice-read-wide c =
-    let start = c .before .before .before .before .before .before .before in
-    let n = c .before .key-index in
-    let h : 0 < length (start .args .key .now) = start .pre in
-    rw (n .ensures) (mod-lt _ h)
+mix-requires-2 : tie.Need-mix-requires-2 Inv-loop μ-loop
+mix-requires-2 c κs = (omega arith, c .before .before .mix .ensures)
+
+mix-requires-3 : tie.Need-mix-requires-3 Inv-loop μ-loop
+mix-requires-3 c κs =
+    let l = c .before .before .before .before .before .before .before .before .loop in
+    let e : l .i + 1 + 1 ≡ l .i + 2 = omega arith in
+    (omega arith, rw e at (c .before .before .mix2 .ensures))
+
+mix-requires-4 : tie.Need-mix-requires-4 Inv-loop μ-loop
+mix-requires-4 c κs =
+    let l = c .before .before .before .before .before .before .before .before .before .before .before .loop in
+    let e : l .i + 2 + 1 ≡ l .i + 3 = omega arith in
+    (omega arith, rw e at (c .before .before .mix3 .ensures))
 
 loop-again : tie.Need-loop-again Inv-loop μ-loop
 loop-again c =
-    let at-key-index = c .before .before in
-    let at-wide = at-key-index .before in
-    let at-loop = at-wide .before .before in
-    let start = at-loop .before .before .before in
-    let l = at-loop .loop in
-    let key = start .args .key .now in
-    let n = at-key-index .key-index in
-    let w = c .wide2 in
-    let v = at-wide .wide in
-    let j = (l .j + v .result + w .result) % 256 in
-    let g : j ≡ (l .j + getD (l .t) (l .i) 0 + getD key (l .i % length key) 0) % 256 = rw (v .ensures .0, w .ensures .0, n .ensures) refl in
-    (search needs, search needs, mod-lt _ (lit< tt), mixing-more key (l .t) (l .i) (l .j) j (l .inv .3) g)
+    let l = c .before .before .before .before .before .before .before .before .before .before .before .before .before .loop in
+    let e : l .i + 3 + 1 ≡ l .i + 4 = omega arith in
+    (omega arith, omega arith, rw e at (c .before .mix4 .ensures))
 
 returns : tie.Need-returns Inv-loop μ-loop
 returns c =
     let l = c .before .loop in
     let e : l .i ≡ 256 = omega arith in
-    ap (λ (m : Mixing). m .table) (rw e at (l .inv .3))
+    ap (λ (m : Mixing). m .table) (rw e at (l .inv .2 .mixed))
 
 pub mixed-spec : {M : Type 1} → statement M
 mixed-spec =
@@ -62,13 +57,14 @@ mixed-spec =
     (λ c. search needs)
     (λ c κs. search needs)
     (λ c. search needs)
-    (λ c κs. search needs)
-    shared-slice-read-wide
-    (λ c κs. search needs)
+    (λ c. search needs)
+    mix-requires-2
     (λ c. search needs)
     (λ c. search needs)
+    mix-requires-3
     (λ c. search needs)
     (λ c. search needs)
+    mix-requires-4
     (λ c. search needs)
     (λ c. search needs)
     loop-again

@@ -1,27 +1,16 @@
--- `rc4::Keystream::new` meets its contract: the key's length picks the answer.
+-- `rc4::Keystream::new` meets its contract: the answer is put together from its parts.
 -- Assumes nothing.
-use native.Mathlib.Omega.{arith}
-use Rattle.rc4.proofs.Table.{made-short, made-long, made-keyed}
 use borrow.Author.Needs.{needs}
+use mathlib.Core.Path.{_∙_}
+use Rattle.rc4.proofs.Table.{made-of}
 use Rattle.rc4.proofs.Keystream.new.Statement.{statement}
 use Rattle.rc4.proofs.Keystream.new.Tie as tie
 
 returns : tie.Need-returns
 returns c =
-    let e = c .unmixed .ensures in
-    rw e (made-short (c .before .before .before .args .key .now) (omega arith))
-
-returns-2 : tie.Need-returns-2
-returns-2 c =
-    let e = c .unmixed2 .ensures in
-    rw e (made-long (c .before .before .before .before .args .key .now) (omega arith))
-
-returns-3 : tie.Need-returns-3
-returns-3 c =
-    let e = c .mixed .ensures in
-    rw e (made-keyed (c .before .before .before .before .args .key .now) (omega arith) (omega arith))
+    let at-fits2 = c .before .before in
+    let key = at-fits2 .before .before .args .key .now in
+    c .started .ensures ∙ made-of key _ _ (at-fits2 .fits2 .ensures) (c .before .table-of .ensures)
 
 pub new-spec : {M : Type 1} → statement M
-new-spec =
-    tie.close
-    (tie.spec (λ c κs. search needs) returns (λ c κs. search needs) returns-2 (λ c κs. search needs) returns-3)
+new-spec = tie.close (tie.spec (λ c κs. search needs) (λ c κs. search needs) (λ c κs. search needs) returns)
