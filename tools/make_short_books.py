@@ -284,6 +284,10 @@ for name, lock, password in ("XOR", XOR, XOR.passwords(15)[0]), ("XOR, one chara
     opened(f"{name}, four blocks", lock, password, records)
     refused(f"{name}, four blocks, another password", stream, 27, password=password + "x" if len(password) < 15 else password[:-1])
 
+# the remaining key sizes, on two blocks side by side and part of a third
+for bits in 48, *range(64, 128, 8):
+    opened(f"CryptoAPI {bits}, three blocks", CryptoApi(bits), "Unruh 50°", SMALL[:-1] + [(0x00FD, some(2000, bits)), (EOF, b"")])
+
 pathlib.Path("crates/short_books/data").mkdir(parents=True, exist_ok=True)
 pathlib.Path("crates/short_books/data/cases").write_bytes(b"".join(cases))
 pathlib.Path("crates/short_books/stdout").write_text("\n".join(lines) + f"\n{len(lines)} cases\n", encoding="utf-8")
