@@ -1,4 +1,4 @@
-/* Times the proved hashes, RC4 and XOR obfuscation beside plain C and OpenSSL, in one run, on the same bytes. Each figure is the best of
+/* Times the proved hashes, RC4 and XOR obfuscation beside plain C and OpenSSL, in one run, on the same bytes and buffers. Each figure is the best of
    several rounds in which the candidates take turns. What they compute is compared first. */
 #include "common.h"
 #include <openssl/md5.h>
@@ -26,26 +26,26 @@ PLAIN(gcc_)
 PLAIN(llvm_)
 
 enum { SIZE = 16 << 20, LARGE = 64 << 20, ROUNDS = 9, SHORT = 24, SHORTS = 1 << 17, PIECE = 2048, RECORD = 20, RECORDS = 1 << 17 };
-static uint8_t *data, *out[4], digest[4][20];
+static uint8_t *data, *out, *first, digest[20];
 static const uint8_t key[16] = "a key of sixteen", other[16] = "sixteen of a key";
 
 static void sha1_by(int who, const uint8_t *m, size_t len)
 {
     switch (who) {
-    case 0: bench_sha1(m, len, digest[0]); break;
-    case 1: llvm_sha1(m, len, digest[1]); break;
-    case 2: gcc_sha1(m, len, digest[2]); break;
-    default: SHA1(m, len, digest[3]); break;
+    case 0: bench_sha1(m, len, digest); break;
+    case 1: llvm_sha1(m, len, digest); break;
+    case 2: gcc_sha1(m, len, digest); break;
+    default: SHA1(m, len, digest); break;
     }
 }
 
 static void md5_by(int who, const uint8_t *m, size_t len)
 {
     switch (who) {
-    case 0: bench_md5(m, len, digest[0]); break;
-    case 1: llvm_md5(m, len, digest[1]); break;
-    case 2: gcc_md5(m, len, digest[2]); break;
-    default: MD5(m, len, digest[3]); break;
+    case 0: bench_md5(m, len, digest); break;
+    case 1: llvm_md5(m, len, digest); break;
+    case 2: gcc_md5(m, len, digest); break;
+    default: MD5(m, len, digest); break;
     }
 }
 
@@ -53,10 +53,10 @@ static void rc4_by(int who, const uint8_t *m, size_t len)
 {
     RC4_KEY state;
     switch (who) {
-    case 0: bench_rc4(key, 16, m, len, out[0], len); break;
-    case 1: llvm_rc4(key, 16, m, out[1], len); break;
-    case 2: gcc_rc4(key, 16, m, out[2], len); break;
-    default: RC4_set_key(&state, 16, key); RC4(&state, len, m, out[3]); break;
+    case 0: bench_rc4(key, 16, m, len, out, len); break;
+    case 1: llvm_rc4(key, 16, m, out, len); break;
+    case 2: gcc_rc4(key, 16, m, out, len); break;
+    default: RC4_set_key(&state, 16, key); RC4(&state, len, m, out); break;
     }
 }
 
@@ -66,12 +66,12 @@ static void halves_by(int who, size_t at, size_t len)
     RC4_KEY state;
     size_t h = len / 2;
     switch (who) {
-    case 0: bench_rc4_halves(key, 16, other, 16, data + at, len, out[0] + at, len); break;
-    case 1: llvm_rc4(key, 16, data + at, out[1] + at, h); llvm_rc4(other, 16, data + at + h, out[1] + at + h, h); break;
-    case 2: gcc_rc4(key, 16, data + at, out[2] + at, h); gcc_rc4(other, 16, data + at + h, out[2] + at + h, h); break;
+    case 0: bench_rc4_halves(key, 16, other, 16, data + at, len, out + at, len); break;
+    case 1: llvm_rc4(key, 16, data + at, out + at, h); llvm_rc4(other, 16, data + at + h, out + at + h, h); break;
+    case 2: gcc_rc4(key, 16, data + at, out + at, h); gcc_rc4(other, 16, data + at + h, out + at + h, h); break;
     default:
-        RC4_set_key(&state, 16, key); RC4(&state, h, data + at, out[3] + at);
-        RC4_set_key(&state, 16, other); RC4(&state, h, data + at + h, out[3] + at + h);
+        RC4_set_key(&state, 16, key); RC4(&state, h, data + at, out + at);
+        RC4_set_key(&state, 16, other); RC4(&state, h, data + at + h, out + at + h);
         break;
     }
 }
@@ -93,10 +93,10 @@ static void halves_pieces(int who, const uint8_t *m, size_t len)
 static void xor_part(int who, size_t index, size_t at, size_t len)
 {
     switch (who) {
-    case 0: bench_xor(key, index, data + at, len, out[0] + at, len); break;
-    case 1: llvm_xor(key, index, data + at, out[1] + at, len); break;
-    case 2: gcc_xor(key, index, data + at, out[2] + at, len); break;
-    default: memcpy(out[3] + at, data + at, len); break;
+    case 0: bench_xor(key, index, data + at, len, out + at, len); break;
+    case 1: llvm_xor(key, index, data + at, out + at, len); break;
+    case 2: gcc_xor(key, index, data + at, out + at, len); break;
+    default: memcpy(out + at, data + at, len); break;
     }
 }
 
@@ -128,6 +128,18 @@ static void md5_short(int who, const uint8_t *m, size_t len)
 static void run(const char *name, void (*by)(int, const uint8_t *, size_t), size_t len, int compared, const char *fourth)
 {
     double best[4] = {1e9, 1e9, 1e9, 1e9};
+    uint8_t *made = compared < 0 ? out : digest;
+    size_t made_len = compared < 0 ? len : (size_t)compared;
+    for (int who = 0; who < (strcmp(fourth, "memcpy") ? 4 : 3); who++) {
+        memset(made, 0, made_len);
+        by(who, data, len);
+        if (who == 0)
+            memcpy(first, made, made_len);
+        else if (memcmp(first, made, made_len)) {
+            printf("%s: candidate %d computes something else\n", name, who);
+            exit(1);
+        }
+    }
     for (int round = 0; round < ROUNDS; round++)
         for (int who = 0; who < 4; who++) {
             double t = now();
@@ -136,26 +148,19 @@ static void run(const char *name, void (*by)(int, const uint8_t *, size_t), size
             if (t < best[who])
                 best[who] = t;
         }
-    for (int who = 1; who < (strcmp(fourth, "memcpy") ? 4 : 3); who++)
-        if (compared < 0 ? memcmp(out[0], out[who], len) : memcmp(digest[0], digest[who], compared)) {
-            printf("%s: candidate %d computes something else\n", name, who);
-            exit(1);
-        }
     printf("%-30s %7.0f MB/s   %.2f of plain C by the same LLVM   %.2f of gcc -O3   %.2f of %s\n", name, len / best[0] / 1e6, best[1] / best[0], best[2] / best[0], best[3] / best[0], fourth);
 }
 
 int main(void)
 {
     data = malloc(LARGE);
-    for (int i = 0; i < 4; i++)
-        out[i] = malloc(LARGE);
+    out = malloc(LARGE);
+    first = malloc(LARGE);
     uint64_t x = 88172645463325252u;
     for (size_t i = 0; i < LARGE; i++) {
         x ^= x << 13; x ^= x >> 7; x ^= x << 17;
         data[i] = (uint8_t)x;
     }
-    for (int i = 0; i < 4; i++)
-        memset(out[i], 0, LARGE);
     run("SHA-1, 16 MiB", sha1_by, SIZE, 20, "OpenSSL");
     run("SHA-1, messages of 24 bytes", sha1_short, (size_t)SHORT * SHORTS, 20, "OpenSSL");
     run("MD5, 16 MiB", md5_by, SIZE, 16, "OpenSSL");

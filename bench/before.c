@@ -1,0 +1,114 @@
+/* Times the key mixing and Open of two trees' archives beside each other, in one run, on the same keys, streams and buffers: this tree's, and an earlier one's,
+   whose functions have before_ ahead of their names. Each figure is the best of several rounds in which the two take turns; what each computes is compared
+   with OpenSSL's keystream, and with the plain stream. */
+#include "../include/sheet.h"
+#include "stream.h"
+#include <stdbool.h>
+#include <stdint.h>
+#include <stdio.h>
+#include <stdlib.h>
+
+#define TREE(p) \
+    bool p##bench_rc4(const uint8_t *key, size_t key_len, const uint8_t *src, size_t src_len, uint8_t *dst, size_t dst_len); \
+    bool p##bench_rc4_halves(const uint8_t *key, size_t key_len, const uint8_t *other, size_t other_len, const uint8_t *src, size_t src_len, uint8_t *dst, size_t dst_len); \
+    uint32_t p##sheet_open(const uint8_t *stream, size_t stream_len, const uint8_t *password, size_t password_len, uint8_t *scratch, size_t scratch_len, uint8_t *output, size_t output_len, uint64_t facts[8]);
+TREE()
+TREE(before_)
+
+enum { SIZE = 64 << 20, ROUNDS = 9, MIXINGS = 20000, BLOCK = 1024 };
+static const uint8_t key[16] = "a key of sixteen", other[16] = "sixteen of a key", zeros[2 * BLOCK];
+static uint8_t *out, scratch[4096]; /* more than either tree asks for */
+
+/* ends the run unless the output is what it must be */
+static void compare(const char *name, int who, const uint8_t *expected, size_t len)
+{
+    if (memcmp(out, expected, len)) {
+        printf("%s: %s computes something else\n", name, who ? "the earlier tree" : "this tree");
+        exit(1);
+    }
+}
+
+/* the keystreams of one key, or of two keys of one length; of no bytes, the mixing is all that is done */
+static void keystreams(int who, int keys, size_t key_len, size_t len)
+{
+    bool ok;
+    if (keys == 1)
+        ok = (who ? before_bench_rc4 : bench_rc4)(key, key_len, zeros, len, out, len);
+    else
+        ok = (who ? before_bench_rc4_halves : bench_rc4_halves)(key, key_len, other, key_len, zeros, 2 * len, out, 2 * len);
+    if (!ok) {
+        printf("a key of %zu bytes: %s makes no keystream\n", key_len, who ? "the earlier tree" : "this tree");
+        exit(1);
+    }
+}
+
+static void mixing(int keys, size_t key_len)
+{
+    char name[64];
+    uint8_t expected[2 * BLOCK];
+    RC4_KEY state;
+    double best[2] = {1e9, 1e9};
+    snprintf(name, sizeof name, "mixing, %s of %zu bytes", keys == 1 ? "one key" : "two keys", key_len);
+    for (int n = 0; n < keys; n++) {
+        RC4_set_key(&state, (int)key_len, n ? other : key);
+        RC4(&state, BLOCK, zeros, expected + BLOCK * n);
+    }
+    for (int who = 0; who < 2; who++) {
+        memset(out, 0, BLOCK * keys);
+        keystreams(who, keys, key_len, BLOCK);
+        compare(name, who, expected, BLOCK * keys);
+    }
+    for (int round = 0; round < ROUNDS; round++)
+        for (int who = 0; who < 2; who++) {
+            double t = now();
+            for (int n = 0; n < MIXINGS; n++)
+                keystreams(who, keys, key_len, 0);
+            t = now() - t;
+            if (t < best[who])
+                best[who] = t;
+        }
+    printf("%-42s before %5.0f ns   now %5.0f ns   %.3f times as fast\n", name, best[1] / MIXINGS * 1e9, best[0] / MIXINGS * 1e9, best[1] / best[0]);
+}
+
+static void opening(unsigned bits, size_t body)
+{
+    char name[64];
+    size_t len = make(2, bits, body, SIZE);
+    double best[2] = {1e9, 1e9};
+    uint64_t facts[8];
+    snprintf(name, sizeof name, "Open, CryptoAPI %u, bodies of %zu bytes", bits, body);
+    for (int round = 0; round < ROUNDS; round++)
+        for (int who = 0; who < 2; who++) {
+            if (round == 0)
+                memset(out, 0, len);
+            double t = now();
+            uint32_t answer = (who ? before_sheet_open : sheet_open)(stream, len, password, PASSWORD_LEN, scratch, sizeof scratch, out, len, facts);
+            t = now() - t;
+            if (answer) {
+                printf("%s: %s refuses, %u\n", name, who ? "the earlier tree" : "this tree", answer);
+                exit(1);
+            }
+            if (round == 0)
+                compare(name, who, plain, len);
+            if (t < best[who])
+                best[who] = t;
+        }
+    printf("%-42s before %3.0f MB/s   now %3.0f MB/s   %.3f times as fast\n", name, len / best[1] / 1e6, len / best[0] / 1e6, best[1] / best[0]);
+}
+
+int main(void)
+{
+    static const size_t lengths[] = {5, 7, 13, 16};
+    static const unsigned sizes[] = {128, 56};
+    plain = malloc(SIZE);
+    stream = malloc(SIZE);
+    out = malloc(SIZE);
+    for (int keys = 1; keys <= 2; keys++)
+        for (size_t i = 0; i < sizeof lengths / sizeof *lengths; i++)
+            mixing(keys, lengths[i]);
+    for (int i = 0; i < 2; i++) {
+        opening(sizes[i], 8224);
+        opening(sizes[i], 14);
+    }
+    return 0;
+}
