@@ -131,8 +131,8 @@ uint32_t sheet_directory(const uint8_t *stream, size_t stream_len, size_t place,
  * stack frames and in registers, of which no proof can speak once the call has returned. A host that minds should
  *
  *   - call sheet_open from a function that is not inlined, and then, from the same caller, a second one that is not
- *     inlined and overwrites a local array of 16 KiB through a pointer to volatile. A call was measured to go 3,360
- *     bytes deep, and 5,600 where the dynamic linker binds memcpy or memset during it;
+ *     inlined and overwrites a local array of 16 KiB through a pointer to volatile. A call was measured to go 3,024
+ *     bytes deep, and 5,560 where the dynamic linker binds memcpy or memset during it;
  *   - link with -z now, or clear the vector registers after the call (vzeroall, and zmm16 to zmm31 where there are
  *     any): memcpy leaves parts of the tables there, and a function bound at its first call, or a signal handled on
  *     the same stack, saves them to the stack;

@@ -17,7 +17,7 @@ pub const PASSWORD_MAX_LEN: usize = 1024;
 /// The most bytes of a stream: 1 GiB.
 pub const STREAM_MAX_LEN: usize = 1 << 30;
 
-/// The stack that is overwritten after a call, in bytes. A call was measured to use 3,360.
+/// The stack that is overwritten after a call, in bytes. A call was measured to use 3,024.
 const SCRUBBED_LEN: usize = 16 * 1024;
 
 /// The lock of a workbook.
