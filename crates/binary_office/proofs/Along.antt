@@ -1,18 +1,14 @@
 -- The walk from an offset on: its first record, no record at its end or at a fault, and a proof by steps along it.
 -- Assumes nothing.
-use mathlib.Core.Path.{_≡_, refl, ap, _∙_}
+use mathlib.Core.Path.{_≡_, refl, ap}
 use mathlib.Core.List.{List, [], _∷_}
 use Prim.Native.Nat.{ℕ, zero, suc, _+_, _≤_, _<_}
 use native.Mathlib.Omega.{arith}
 use lib.ListN.{length}
-use Rattle.laws.proofs.Choice.{either}
-use Rattle.binary_office.specs.declared.Field16.{Field16}
-use Rattle.binary_office.specs.declared.Field16.the-variants as two
 use Rattle.binary_office.specs.declared.Step.{Step}
 use Rattle.binary_office.specs.declared.Step.the-variants as step
-use Rattle.binary_office.specs.Fields.{le16At}
 use Rattle.binary_office.specs.Walk.{Walk, stepAt, walkAt}
-use Rattle.binary_office.proofs.Headers.{step-no-id, step-no-len, step-record, step-past}
+use Rattle.binary_office.proofs.Headers.{by-step}
 use Rattle.binary_office.proofs.Walks.{record-within, walk-end, walk-fault, walk-record}
 
 module _ (s : List ℕ) where
@@ -31,25 +27,11 @@ module _ (s : List ℕ) where
   records-fault at p e = ap (λ (w : Walk). w .records) (walk-fault s at p e)
 
   -- the walk's end is the end of the stream
-  module _ (at : ℕ) (e : stepAt s at ≡ step.End) where
-    never : (w : Step) → w ≡ stepAt s at → (w ≡ step.End → _≡_ {A = ℕ} 0 1) → length s ≤ at
-    never w g f = let z : _≡_ {A = ℕ} 0 1 = f (g ∙ e) in absurd (no z)
-      where
-        no : _≡_ {A = ℕ} 0 1 → ⊥
-        no z = omega arith
-
-    by-len : at < length s → (i : ℕ) → two.Value i ≡ le16At s at → (w : Field16) → w ≡ le16At s (at + 2) → length s ≤ at
-    by-len h i g two.Short k = never (step.Fault at) (step-no-len s at h i g k) (λ q. cc)
-    by-len h i g (two.Value l) k =
-        either (at + 4 + l) (length s) (λ m. never (step.Record i l) (step-record s at h i l g k m) (λ q. cc))
-        (λ m. never (step.Fault at) (step-past s at h i l g k m) (λ q. cc))
-
-    by-id : at < length s → (w : Field16) → w ≡ le16At s at → length s ≤ at
-    by-id h two.Short g = never (step.Fault at) (step-no-id s at h g) (λ q. cc)
-    by-id h (two.Value i) g = by-len h i g (le16At s (at + 2)) refl
-
-    pub end-past : length s ≤ at
-    end-past = either (length s) at (λ h. h) (λ h. by-id h (le16At s at) refl)
+  pub end-past : (at : ℕ) → stepAt s at ≡ step.End → length s ≤ at
+  end-past at e = by-step s at (λ (r : Step). r ≡ step.End → length s ≤ at) (λ h q. h) (λ q. no (cc)) (λ id len g k m q. no (cc)) e
+    where
+      no : _≡_ {A = ℕ} 0 1 → length s ≤ at
+      no z = omega arith
 
   -- a statement of every offset of a walk, proved at its end, at a fault, and at a record from the next header
   pub along : (P : ℕ → Type 0) → ((at : ℕ) → stepAt s at ≡ step.End → P at) → ((at p : ℕ) → stepAt s at ≡ step.Fault p → P at)

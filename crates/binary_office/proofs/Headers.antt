@@ -1,13 +1,15 @@
 -- Fields, and what stands at an offset, by the tests on the way: as the code answers them, and what each answer tells.
 -- Assumes nothing.
-use mathlib.Core.Path.{_≡_, refl}
+use mathlib.Core.Path.{_≡_, refl, sym, ap, _∙_}
 use mathlib.Core.List.{List}
-use Prim.Native.Nat.{ℕ, _+_, _*_, _^_, _≤_, _<_}
+use Prim.Native.Nat.{ℕ, _+_, _*_, _^_, _≤_, _<_, min}
 use native.Mathlib.Omega.{arith}
-use lib.ListN.{length, getD}
+use lib.ListN.{length, getD, take, length-take}
+use lib.Seq.{getD-take}
 use borrow.Author.Tests.{le-leb, lt-leb}
 use Rattle.laws.proofs.Choice.{stop, skip, either}
 use Rattle.word.specs.Word.{le32, from-le}
+use Rattle.binary_office.specs.declared.Field16.{Field16}
 use Rattle.binary_office.specs.declared.Field16.the-variants as two
 use Rattle.binary_office.specs.declared.Field32.the-variants as four
 use Rattle.binary_office.specs.declared.Step.{Step}
@@ -56,3 +58,50 @@ module _ (s : List ℕ) (at : ℕ) where
 
     pub step-past : (id len : ℕ) → two.Value id ≡ le16At s at → two.Value len ≡ le16At s (at + 2) → length s < at + 4 + len → step.Fault at ≡ stepAt s at
     step-past id len e g h = go-on (step.Fault at) (rw (← e, ← g) (skip _ (lt-leb (at + 4 + len) (length s) h) refl))
+
+  -- a statement of what stands at an offset, by the tests on the way to it
+  pub by-step : (P : Step → Type 0) → (length s ≤ at → P step.End) → P (step.Fault at)
+      → ((id len : ℕ) → two.Value id ≡ le16At s at → two.Value len ≡ le16At s (at + 2) → at + 4 + len ≤ length s → P (step.Record id len))
+      → P (stepAt s at)
+  by-step P ends faulty one = either (length s) at (λ h. rw (← (step-end h)) (ends h)) (λ h. by-id h (le16At s at) refl)
+    where
+      by-len : at < length s → (id : ℕ) → two.Value id ≡ le16At s at → (w : Field16) → w ≡ le16At s (at + 2) → P (stepAt s at)
+      by-len h id e two.Short g = rw (← (step-no-len h id e g)) faulty
+      by-len h id e (two.Value len) g =
+          either (at + 4 + len) (length s) (λ m. rw (← (step-record h id len e g m)) (one id len e g m)) (λ m. rw (← (step-past h id len e g m)) faulty)
+
+      by-id : at < length s → (w : Field16) → w ≡ le16At s at → P (stepAt s at)
+      by-id h two.Short e = rw (← (step-no-id h e)) faulty
+      by-id h (two.Value id) e = by-len h id e (le16At s (at + 2)) refl
+
+-- the fields of a list's first bytes: the list's own where they lie within them, and else cut short
+module _ (s : List ℕ) (n at : ℕ) where
+  first-length : length (take n s) ≡ min n (length s)
+  first-length = length-take n s
+
+  byte : (i : ℕ) → i < n → getD (take n s) i 0 ≡ getD s i 0
+  byte i h = getD-take n s i 0 h
+
+  pub le16-first : at + 2 ≤ n → le16At (take n s) at ≡ le16At s at
+  le16-first h =
+      let first = first-length in
+      either (at + 2) (length s)
+      (λ k.
+      sym (le16-value (take n s) at _ (omega arith) refl) ∙ ap two.Value (rw (byte at (omega arith), byte (at + 1) (omega arith))) ∙ le16-value s at _ k refl)
+      (λ k. sym (le16-short (take n s) at (omega arith)) ∙ le16-short s at k)
+
+  pub le16-beyond : n < at + 2 → two.Short ≡ le16At (take n s) at
+  le16-beyond h = let first = first-length in le16-short (take n s) at (omega arith)
+
+  pub le32-first : at + 4 ≤ n → le32At (take n s) at ≡ le32At s at
+  le32-first h =
+      let first = first-length in
+      either (at + 4) (length s)
+      (λ k.
+      sym (le32-value (take n s) at _ (omega arith) refl)
+      ∙ ap four.Value (rw (byte at (omega arith), byte (at + 1) (omega arith), byte (at + 2) (omega arith), byte (at + 3) (omega arith)))
+      ∙ le32-value s at _ k refl)
+      (λ k. sym (le32-short (take n s) at (omega arith)) ∙ le32-short s at k)
+
+  pub le32-beyond : n < at + 4 → four.Short ≡ le32At (take n s) at
+  le32-beyond h = let first = first-length in le32-short (take n s) at (omega arith)

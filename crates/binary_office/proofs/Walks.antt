@@ -7,38 +7,39 @@ use Prim.Native.Nat.{ℕ, zero, suc, _+_, _*_, _^_, _≤_, _<_}
 use native.Mathlib.Nat.{zero-add, add-zero}
 use native.Mathlib.Omega.{arith}
 use lib.ListN.{length}
-use Rattle.laws.proofs.Choice.{either}
-use Rattle.binary_office.specs.declared.Field16.{Field16}
 use Rattle.binary_office.specs.declared.Field16.the-variants as two
 use Rattle.binary_office.specs.declared.Step.{Step}
 use Rattle.binary_office.specs.declared.Step.the-variants as step
 use Rattle.binary_office.specs.declared.WalkEnd.the-variants as end
 use Rattle.binary_office.specs.Fields.{le16At}
 use Rattle.binary_office.specs.Walk.{stepAt, nextOf, Walk, behind, walkFrom, walkAt, walk, walkedOf}
-use Rattle.binary_office.proofs.Headers.{step-end, step-no-id, step-no-len, step-record, step-past}
+use Rattle.binary_office.proofs.Headers.{by-step}
 
 module _ (s : List ℕ) where
-  -- a record lies within the stream
+  -- a record has its id and its length at its offset, and lies within the stream
   module _ (at id len : ℕ) (e : stepAt s at ≡ step.Record id len) where
-    never : (r : Step) → r ≡ stepAt s at → (r ≡ step.Record id len → _≡_ {A = ℕ} 0 1) → at + 4 + len ≤ length s
-    never r g f = let z : _≡_ {A = ℕ} 0 1 = f (g ∙ e) in absurd (no z)
+    pub record RecordThere : Type 0 where
+      pub id-there : two.Value id ≡ le16At s at
+      pub len-there : two.Value len ≡ le16At s (at + 2)
+      pub within : at + 4 + len ≤ length s
+
+    never : (r : Step) → (r ≡ step.Record id len → _≡_ {A = ℕ} 0 1) → r ≡ step.Record id len → RecordThere
+    never r f q = absurd (no (f q))
       where
         no : _≡_ {A = ℕ} 0 1 → ⊥
         no z = omega arith
 
-    by-len : at < length s → (i : ℕ) → two.Value i ≡ le16At s at → (w : Field16) → w ≡ le16At s (at + 2) → at + 4 + len ≤ length s
-    by-len h i g two.Short k = never (step.Fault at) (step-no-len s at h i g k) (λ q. cc)
-    by-len h i g (two.Value l) k =
-        either (at + 4 + l) (length s)
-        (λ m. let q : step.Record i l ≡ step.Record id len = step-record s at h i l g k m ∙ e in let z : l ≡ len = cc in omega arith)
-        (λ m. never (step.Fault at) (step-past s at h i l g k m) (λ q. cc))
+    it-is : (i l : ℕ) → two.Value i ≡ le16At s at → two.Value l ≡ le16At s (at + 2) → at + 4 + l ≤ length s → step.Record i l ≡ step.Record id len → RecordThere
+    it-is i l g k m q =
+        let x : i ≡ id = cc in
+        let y : l ≡ len = cc in
+        record { id-there = ap two.Value (sym x) ∙ g; len-there = ap two.Value (sym y) ∙ k; within = omega arith }
 
-    by-id : at < length s → (w : Field16) → w ≡ le16At s at → at + 4 + len ≤ length s
-    by-id h two.Short g = never (step.Fault at) (step-no-id s at h g) (λ q. cc)
-    by-id h (two.Value i) g = by-len h i g (le16At s (at + 2)) refl
+    pub record-there : RecordThere
+    record-there = by-step s at (λ (r : Step). r ≡ step.Record id len → RecordThere) (λ h. never step.End (λ q. cc)) (never (step.Fault at) (λ q. cc)) it-is e
 
     pub record-within : at + 4 + len ≤ length s
-    record-within = either (length s) at (λ h. never step.End (step-end s at h) (λ q. cc)) (λ h. by-id h (le16At s at) refl)
+    record-within = record-there .within
 
   -- where the next header stands fits a number of the machine, as the offset and the stream's length do
   pub next-fits : (at : ℕ) → at < 2 ^ 64 → length s < 2 ^ 64 → (r : Step) → r ≡ stepAt s at → nextOf at r < 2 ^ 64
@@ -47,24 +48,8 @@ module _ (s : List ℕ) where
   next-fits at h k (step.Record id len) e = let m = record-within at id len (sym e) in omega arith
 
   -- a fault's place is the header's offset
-  module _ (at p : ℕ) (e : stepAt s at ≡ step.Fault p) where
-    same : step.Fault at ≡ stepAt s at → p ≡ at
-    same g = let q : step.Fault at ≡ step.Fault p = g ∙ e in cc
-
-    never-fault : (r : Step) → r ≡ stepAt s at → (r ≡ step.Fault p → p ≡ at) → p ≡ at
-    never-fault r g f = f (g ∙ e)
-
-    place-by-len : at < length s → (i : ℕ) → two.Value i ≡ le16At s at → (w : Field16) → w ≡ le16At s (at + 2) → p ≡ at
-    place-by-len h i g two.Short k = same (step-no-len s at h i g k)
-    place-by-len h i g (two.Value l) k =
-        either (at + 4 + l) (length s) (λ m. never-fault (step.Record i l) (step-record s at h i l g k m) (λ q. cc)) (λ m. same (step-past s at h i l g k m))
-
-    place-by-id : at < length s → (w : Field16) → w ≡ le16At s at → p ≡ at
-    place-by-id h two.Short g = same (step-no-id s at h g)
-    place-by-id h (two.Value i) g = place-by-len h i g (le16At s (at + 2)) refl
-
-    pub fault-place : p ≡ at
-    fault-place = either (length s) at (λ h. never-fault step.End (step-end s at h) (λ q. cc)) (λ h. place-by-id h (le16At s at) refl)
+  pub fault-place : (at p : ℕ) → stepAt s at ≡ step.Fault p → p ≡ at
+  fault-place at p e = by-step s at (λ (r : Step). r ≡ step.Fault p → p ≡ at) (λ h q. cc) (λ q. cc) (λ id len g k m q. cc) e
 
   from-end : (f at : ℕ) → stepAt s at ≡ step.End → walkFrom (suc f) s at ≡ record { records = []; ends = end.Clean }
   unfolding walkFrom

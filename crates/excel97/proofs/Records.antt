@@ -5,16 +5,17 @@ use mathlib.Core.Bool.{Bool, true, false}
 use mathlib.Core.List.{List, []}
 use mathlib.Core.Option.{none, some}
 use Prim.Native.Nat.{ℕ, _+_, _≤_, _<_, min}
+use native.Mathlib.Nat.{le-refl}
 use native.Mathlib.Omega.{arith}
 use borrow.Author.Tests.{eq-eqb, ne-eqb, le-leb, lt-ltb, le-ltb}
 use lib.Dec.{eqb}
 use lib.ListN.{length}
 use Rattle.laws.specs.Choice.{pick}
-use Rattle.laws.proofs.Choice.{taken, left}
+use Rattle.laws.proofs.Choice.{taken, left, same-or}
 use Rattle.binary_office.specs.declared.Step.the-variants as step
 use Rattle.binary_office.specs.declared.WalkEnd.the-variants as end
 use Rattle.binary_office.specs.Walk.{BiffRecord, Walk, stepAt, walkAt, walk, neverEncrypted, clearLen}
-use Rattle.binary_office.proofs.Along.{records-on, ends-on, end-past}
+use Rattle.binary_office.proofs.Along.{records-on, ends-on, records-end, records-fault, end-past, along}
 use Rattle.binary_office.proofs.Walks.{record-within, walk-fault}
 use Rattle.file_params.specs.Questions.{filepass, otherId}
 use Rattle.excel97.specs.Open.{recordAt, covers}
@@ -50,6 +51,33 @@ module _ (s : List ℕ) where
 pub no-filepass : (rs : List BiffRecord) → rs ≡ [] → filepass rs ≡ none
 unfolding filepass
 no-filepass rs e = rw e
+
+-- the first FILEPASS of the walk from an offset on: a record with that id, there or behind it
+module _ (s : List ℕ) where
+  pub record Located (at : ℕ) (r : BiffRecord) : Type 0 where
+    pub from : at ≤ r .at
+    pub stands : stepAt s (r .at) ≡ step.Record 0x002F (r .len)
+
+  pub located : (at : ℕ) → at ≤ length s → (r : BiffRecord) → filepass (walkAt s at .records) ≡ some r → Located at r
+  located =
+      along s (λ (at : ℕ). (r : BiffRecord) → filepass (walkAt s at .records) ≡ some r → Located at r)
+      (λ at e r g. none-there at r (no-filepass (walkAt s at .records) (records-end s at e)) g)
+      (λ at p e r g. none-there at r (no-filepass (walkAt s at .records) (records-fault s at p e)) g)
+      (λ at id len e again r g.
+      same-or id 0x002F
+      (λ q. it-is at id len r e q (sym (filepass-here s at id len e q) ∙ g))
+      (λ q. let h = again r (sym (filepass-on s at id len e q) ∙ g) in let f = h .from in record { from = omega arith; stands = h .stands }))
+    where
+      none-there : (at : ℕ) (r : BiffRecord) → filepass (walkAt s at .records) ≡ none → filepass (walkAt s at .records) ≡ some r → Located at r
+      none-there at r e g = let z : none ≡ some r = sym e ∙ g in absurd (no (cc))
+        where
+          no : _≡_ {A = ℕ} 0 1 → ⊥
+          no z = omega arith
+
+      it-is : (at id len : ℕ) (r : BiffRecord) → stepAt s at ≡ step.Record id len → id ≡ 0x002F → some (record { at = at; id = id; len = len }) ≡ some r → Located at r
+      it-is at id len r e q g =
+          let z : record { at = at; id = id; len = len } ≡ r = cc in
+          rw (← z) (record { from = le-refl at; stands = e ∙ ap (λ (i : ℕ). step.Record i len) q })
 
 pub no-other : (rs : List BiffRecord) → rs ≡ [] → otherId rs ≡ none
 unfolding otherId

@@ -12,23 +12,21 @@ use borrow.Author.Tests.{eq-eqb, ne-eqb}
 use lib.Dec.{eqb}
 use lib.ListN.{length, getD}
 use Rattle.laws.specs.Choice.{pick}
-use Rattle.laws.proofs.Choice.{taken, left, either, same-or}
-use Rattle.binary_office.specs.declared.Field16.{Field16}
+use Rattle.laws.proofs.Choice.{taken, left, same-or}
 use Rattle.binary_office.specs.declared.Field16.the-variants as two
-use Rattle.binary_office.specs.declared.Step.{Step}
 use Rattle.binary_office.specs.declared.Step.the-variants as step
 use Rattle.binary_office.specs.declared.WalkEnd.the-variants as end
 use Rattle.binary_office.specs.Fields.{le16At}
 use Rattle.binary_office.specs.Walk.{BiffRecord, stepAt, walkAt, walk, clearLen}
-use Rattle.binary_office.proofs.Headers.{le16-value, step-no-id, step-no-len, step-record, step-past}
-use Rattle.binary_office.proofs.Walks.{record-within}
+use Rattle.binary_office.proofs.Headers.{le16-value}
+use Rattle.binary_office.proofs.Walks.{record-there, record-within}
 use Rattle.binary_office.proofs.Along.{records-on, records-end, records-fault, along}
 use Rattle.binary_office.proofs.Renamed.{renamed, walk-renamed}
 use Rattle.file_params.specs.Questions.{filepass, le16}
 use Rattle.file_params.proofs.Fields.{field-value}
 use Rattle.excel97.specs.Open.{recordAt, blanked}
 use Rattle.excel97.specs.Demand3.{Bounds, boundsOf}
-use Rattle.excel97.proofs.Records.{filepass-here, filepass-on, no-filepass, clear-within, Reached, reached-none, reached-on, reached-fault, record-here}
+use Rattle.excel97.proofs.Records.{filepass-here, filepass-on, located, clear-within, Reached, reached-none, reached-on, reached-fault, record-here}
 use Rattle.excel97.proofs.Blanked.{blank-before, blank-id, blank-length, blank-behind}
 
 -- the id that a header has in the plain stream, by its offset and its id in the stream
@@ -42,44 +40,9 @@ bounds-kept new (r ∷ rs) = ap (λ (bs : List Bounds). record { header = r .at;
 
 module _ (s : List ℕ) where
   -- the id and the length of a record are its header's two fields
-  module _ (at id len : ℕ) (e : stepAt s at ≡ step.Record id len) where
-    abbrev Fields : Type 0
-    Fields = (id ≡ le16 s at) × (len ≡ le16 s (at + 2))
-
-    not-record : (w : Step) → w ≡ stepAt s at → (w ≡ step.Record id len → Fields) → Fields
-    not-record w g f = f (g ∙ e)
-
-    by-len : at < length s → (i : ℕ) → two.Value i ≡ le16At s at → (w : Field16) → w ≡ le16At s (at + 2) → Fields
-    by-len h i g two.Short k = not-record (step.Fault at) (step-no-len s at h i g k) (λ q. (cc, cc))
-    by-len h i g (two.Value l) k =
-        either (at + 4 + l) (length s)
-        (λ m. not-record (step.Record i l) (step-record s at h i l g k m)
-        (λ q. let y : id ≡ i = cc in let z : len ≡ l = cc in (y ∙ field-value s at i g, z ∙ field-value s (at + 2) l k)))
-        (λ m. not-record (step.Fault at) (step-past s at h i l g k m) (λ q. (cc, cc)))
-
-    by-id : at < length s → (w : Field16) → w ≡ le16At s at → Fields
-    by-id h two.Short g = not-record (step.Fault at) (step-no-id s at h g) (λ q. (cc, cc))
-    by-id h (two.Value i) g = by-len h i g (le16At s (at + 2)) refl
-
-    pub header-fields : Fields
-    header-fields = let m = record-within s at id len e in by-id (omega arith) (le16At s at) refl
-
-  -- the first FILEPASS of the walk from an offset on stands at that offset or behind it
-  filepass-from : (at : ℕ) → at ≤ length s → (r : BiffRecord) → filepass (walkAt s at .records) ≡ some r → at ≤ r .at
-  filepass-from =
-      along s (λ (at : ℕ). (r : BiffRecord) → filepass (walkAt s at .records) ≡ some r → at ≤ r .at)
-      (λ at e r g. none-there at r (no-filepass (walkAt s at .records) (records-end s at e)) g)
-      (λ at p e r g. none-there at r (no-filepass (walkAt s at .records) (records-fault s at p e)) g)
-      (λ at id len e again r g.
-      same-or id 0x002F
-      (λ q. it-is at r (record { at = at; id = id; len = len }) refl (sym (filepass-here s at id len e q) ∙ g))
-      (λ q. let h = again r (sym (filepass-on s at id len e q) ∙ g) in omega arith))
-    where
-      none-there : (at : ℕ) (r : BiffRecord) → filepass (walkAt s at .records) ≡ none → filepass (walkAt s at .records) ≡ some r → at ≤ r .at
-      none-there at r e g = let z : _≡_ {A = ℕ} 0 1 = cc in omega arith
-
-      it-is : (at : ℕ) (r t : BiffRecord) → at ≡ t .at → some t ≡ some r → at ≤ r .at
-      it-is at r t h e = let z : t ≡ r = cc in let y : t .at ≡ r .at = ap (λ (b : BiffRecord). b .at) z in omega arith
+  header-fields : (at id len : ℕ) → stepAt s at ≡ step.Record id len → (id ≡ le16 s at) × (len ≡ le16 s (at + 2))
+  header-fields at id len e =
+      let there = record-there s at id len e in (field-value s at id (there .id-there), field-value s (at + 2) len (there .len-there))
 
   -- the first FILEPASS is the first from an offset on, or no offset from there on is zeroed
   data Sits (f : Option BiffRecord) (at : ℕ) : Type 0 where
@@ -99,7 +62,7 @@ module _ (s : List ℕ) where
 
     before-next : (w : Option BiffRecord) → filepass (walkAt s (at + 4 + len) .records) ≡ w → (o : ℕ) → o < at + 4 + len → blanked w o ≡ false
     before-next none g o k = refl
-    before-next (some r) g o k = let h = filepass-from (at + 4 + len) (record-within s at id len e) r g in blank-before r o (omega arith)
+    before-next (some r) g o k = let h = located s (at + 4 + len) (record-within s at id len e) r g .from in blank-before r o (omega arith)
 
     -- the length of a record is not zeroed
     length-kept : Sits f at → (o : ℕ) → at + 2 ≤ o → o < at + 4 → blanked f o ≡ false

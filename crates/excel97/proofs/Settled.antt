@@ -17,7 +17,6 @@ use Rattle.binary_office.specs.declared.WalkEnd.{WalkEnd}
 use Rattle.binary_office.specs.declared.WalkEnd.the-variants as end
 use Rattle.binary_office.specs.Walk.{BiffRecord, walkAt, walk}
 use Rattle.binary_office.proofs.Walks.{record-within}
-use Rattle.binary_office.proofs.Along.{records-end, records-fault, along}
 use Rattle.file_params.specs.declared.Refusal.{Refusal}
 use Rattle.file_params.specs.declared.Refusal.the-variants.{WrongPassword}
 use Rattle.file_params.specs.Questions.{Question, ask, asked, only, lent, inOrder, locked, book, lock, rc4, encryptionType, questions, clean, filepass, isSome, filepassBody, typeOf, structureOf}
@@ -36,25 +35,12 @@ use Rattle.excel97.specs.declared.Surveyed.the-variants as surveyed
 use Rattle.excel97.specs.Open.{passes, plain, report, xorReport, rc4Report, wiped, outcomeBy, outcome, Opens}
 use Rattle.excel97.specs.Steps.{foundOf, bookBy, bookOf, surveyedOf, schemeBy, schemeOf, Unlocks, Ready, laterRefusal, Settles}
 use Rattle.excel97.proofs.Answers.{given-passes, later-number}
-use Rattle.excel97.proofs.Records.{filepass-here, filepass-on, no-filepass}
+use Rattle.excel97.proofs.Records.{located}
 
 -- the first FILEPASS lies within the stream
 module _ (s : List ℕ) where
   inside-from : (at : ℕ) → at ≤ length s → (r : BiffRecord) → filepass (walkAt s at .records) ≡ some r → r .at + 4 + r .len ≤ length s
-  inside-from =
-      along s (λ (at : ℕ). (r : BiffRecord) → filepass (walkAt s at .records) ≡ some r → r .at + 4 + r .len ≤ length s)
-      (λ at e r g. none-there at r (no-filepass (walkAt s at .records) (records-end s at e)) g)
-      (λ at p e r g. none-there at r (no-filepass (walkAt s at .records) (records-fault s at p e)) g)
-      (λ at id len e again r g.
-      same-or id 0x002F
-      (λ q. it-is r (record { at = at; id = id; len = len }) (sym (filepass-here s at id len e q) ∙ g) (record-within s at id len e))
-      (λ q. again r (sym (filepass-on s at id len e q) ∙ g)))
-    where
-      none-there : (at : ℕ) (r : BiffRecord) → filepass (walkAt s at .records) ≡ none → filepass (walkAt s at .records) ≡ some r → r .at + 4 + r .len ≤ length s
-      none-there at r e g = let z : _≡_ {A = ℕ} 0 1 = cc in omega arith
-
-      it-is : (r t : BiffRecord) → some t ≡ some r → t .at + 4 + t .len ≤ length s → r .at + 4 + r .len ≤ length s
-      it-is r t e h = let z : t ≡ r = cc in rw (← z) h
+  inside-from at h r e = record-within s (r .at) 0x002F (r .len) (located s at h r e .stands)
 
   -- what questions 6 to 9 tell
   module _ (e : none ≡ asked (book s)) (b : Book) (eb : b ≡ bookOf s) where
@@ -114,7 +100,7 @@ module _ (body : List ℕ) where
     unfolding encryptionType
     six-there z = leb-true 6 (length body) (rw (z, eq-eqb 0 0 refl) at (first-yes _ (drop 2 (encryptionType body)) (rest-yes _ (drop 1 (encryptionType body)) types)))
 
-    at-most-one : typeOf body ≤ 1
+    pub at-most-one : typeOf body ≤ 1
     unfolding encryptionType
     at-most-one = leb-true (typeOf body) 1 (first-yes _ [] (rest-yes _ (drop 2 (encryptionType body)) (rest-yes _ (drop 1 (encryptionType body)) types)))
 
