@@ -6,14 +6,13 @@ use mathlib.Core.List.{List}
 use Prim.Native.Nat.{ℕ, zero, suc, _+_, _-_, _≤_, _<_, min}
 use native.Mathlib.Nat.{le-refl, sub-zero, zero-add}
 use native.Mathlib.Omega.{arith}
-use lib.Dec.{eqb, leb}
-use lib.ListN.{length, take, drop, length-drop}
-use lib.Seq.{take-all}
+use lib.Dec.{eqb}
+use lib.ListN.{length, getD, take, drop, length-take, length-drop}
+use lib.Seq.{take-all, getD-take, getD-drop, ext-getD}
 use borrow.Author.Tests.{eq-eqb, ne-eqb, le-leb, lt-leb}
 use Rattle.laws.specs.Choice.{pick, within}
-use Rattle.laws.proofs.Choice.{stop, skip, either, same-or}
+use Rattle.laws.proofs.Choice.{stop, skip, either, same-or, within-yes, within-high}
 use Rattle.binary_office.specs.declared.Field16.the-variants as two
-use Rattle.binary_office.specs.declared.Field32.the-variants as four
 use Rattle.binary_office.specs.declared.Version.{Version}
 use Rattle.binary_office.specs.declared.Version.the-variants.{Pair, NoVersion}
 use Rattle.binary_office.specs.declared.KeySize.{KeySize}
@@ -24,7 +23,25 @@ use Rattle.binary_office.specs.Walk.{neverEncrypted}
 use Rattle.binary_office.specs.declared.Field16.{Field16}
 use Rattle.binary_office.specs.declared.Verdict.{Verdict}
 use Rattle.binary_office.specs.declared.Verdict.the-variants.{Yes, No, Unknown}
-use Rattle.binary_office.specs.Look.{versionOf, sizeOf, factsOf, judged, scanByLength, scanById, scanFrom, scanAt, look, sameVersion, sameSize, sameFacts, sameVerdict, sameLock}
+use Rattle.binary_office.specs.Look.{versionOf, bitsOf, bitsIn, sizeOf, factsOf, judged, scanByLength, scanById, scanFrom, scanAt, look, sameVersion, sameSize, sameFacts, sameVerdict, sameLock}
+
+-- the key size that a header states: 0 is 40, 1 to 4096 is itself, above there is none
+module _ (k : ℕ) where
+  pub bits-zero : k ≡ 0 → Bits 40 ≡ bitsOf k
+  unfolding bitsOf
+  bits-zero z = stop _ (eq-eqb k 0 z)
+
+  module _ (other : k ≡ 0 → ⊥) where
+    least-one : (n : ℕ) → (n ≡ 0 → ⊥) → 1 ≤ n
+    least-one n f = omega arith
+
+    pub bits-stated : k ≤ 4096 → Bits k ≡ bitsOf k
+    unfolding bitsOf
+    bits-stated h = skip _ (ne-eqb k 0 other) (stop _ (within-yes 1 4096 k (least-one k other) h))
+
+    pub bits-above : 4096 < k → NoSize ≡ bitsOf k
+    unfolding bitsOf
+    bits-above h = skip _ (ne-eqb k 0 other) (skip _ (within-high 1 4096 k h) refl)
 
 module _ (body : List ℕ) where
   -- the key size of a version
@@ -32,15 +49,8 @@ module _ (body : List ℕ) where
     pub size-other : (within 2 4 major && eqb minor 2) ≡ false → NoSize ≡ sizeOf body v
     size-other t = rw e (skip _ t refl)
 
-    module _ (t : (within 2 4 major && eqb minor 2) ≡ true) where
-      pub size-short : four.Short ≡ le32At body 30 → NoSize ≡ sizeOf body v
-      size-short g = rw (e, ← g) (stop _ t)
-
-      pub size-bits : (k : ℕ) → four.Value k ≡ le32At body 30 → within 1 4096 k ≡ true → Bits k ≡ sizeOf body v
-      size-bits k g h = rw (e, ← g) (stop _ h ∙ stop _ t)
-
-      pub size-out : (k : ℕ) → four.Value k ≡ le32At body 30 → within 1 4096 k ≡ false → NoSize ≡ sizeOf body v
-      size-out k g h = rw (e, ← g) (skip _ h refl ∙ stop _ t)
+    pub size-in : (b : KeySize) → (within 2 4 major && eqb minor 2) ≡ true → b ≡ bitsIn (le32At body 30) → b ≡ sizeOf body v
+    size-in b t h = rw e (h ∙ stop _ t)
 
   -- the facts, by the body's type
   pub facts-short : two.Short ≡ le16At body 0 → record { xor = false; version = NoVersion; «key_size» = NoSize } ≡ factsOf body
@@ -122,6 +132,36 @@ body-cut l start len n e h g =
 
 pub book-cut : (l : List ℕ) (cap n : ℕ) → n ≡ min (length l) cap → take (n - 0) l ≡ take cap l
 book-cut l cap n h = body-cut l 0 cap n n (h ∙ ap (λ (k : ℕ). min k cap) (sym (sub-zero (length l)))) (sym (zero-add n))
+
+-- the part of a book that is cut itself, as the first bytes of the part of the whole
+pub part-cut : (l : List ℕ) (most start len : ℕ) → take len (drop start (take most l)) ≡ take (most - start) (take len (drop start l))
+part-cut l most start len = ext-getD 0 (take len (drop start (take most l))) (take (most - start) (take len (drop start l))) lengths bytes
+  where
+    cut-length : length (take len (drop start (take most l))) ≡ min len (min most (length l) - start)
+    cut-length = length-take len (drop start (take most l)) ∙ ap (min len) (length-drop start (take most l) ∙ ap (λ (n : ℕ). n - start) (length-take most l))
+
+    less : (c n k : ℕ) → min c n - k ≡ min (c - k) (n - k)
+    less c n k = omega arith
+
+    least : (a b c : ℕ) → min a (min b c) ≡ min b (min a c)
+    least a b c = omega arith
+
+    lengths : length (take len (drop start (take most l))) ≡ length (take (most - start) (take len (drop start l)))
+    lengths =
+        cut-length
+        ∙ ap (min len) (less most (length l) start)
+        ∙ least len (most - start) (length l - start)
+        ∙ sym (length-take (most - start) (take len (drop start l)) ∙ ap (min (most - start)) (length-take len (drop start l) ∙ ap (min len) (length-drop start l)))
+
+    bytes : (i : ℕ) → i < length (take len (drop start (take most l))) → getD (take len (drop start (take most l))) i 0 ≡ getD (take (most - start) (take len (drop start l))) i 0
+    bytes i h =
+        let a = cut-length in
+        getD-take len (drop start (take most l)) i 0 (omega arith)
+        ∙ getD-drop start (take most l) i 0
+        ∙ getD-take most l (start + i) 0 (omega arith)
+        ∙ sym (getD-drop start l i 0)
+        ∙ sym (getD-take len (drop start l) i 0 (omega arith))
+        ∙ sym (getD-take (most - start) (take len (drop start l)) i 0 (omega arith))
 
 module _ (s : List ℕ) where
   pub look-short : two.Short ≡ le16At (take 1048576 s) 0 → Unknown ≡ look s

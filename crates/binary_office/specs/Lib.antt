@@ -1,3 +1,4 @@
 pub mod Fields
+pub mod KeySizes
 pub mod Look
 pub mod Walk

@@ -1,4 +1,4 @@
--- Look and Same lock of document 01 ("Look: is the book locked").
+-- Look and Same lock of document 01 ("Look: is the book locked"), with key size 0 as document 02 has it (T-03).
 -- Assumes nothing.
 use Prim.Native.Nat.{ℕ, zero, suc, _+_}
 use mathlib.Core.Bool.{Bool, true, false, not, _&&_, Bool·beq}
@@ -29,14 +29,17 @@ pairOf (two.Value major) (two.Value minor) = Pair major minor
 unfoldable pub versionOf : List ℕ → Version
 versionOf body = pairOf (le16At body 2) (le16At body 4)
 
--- the four-byte key size at body byte 30, for major 2 to 4 with minor 2, if it is 1 to 4096
-abbrev pub bitsOf : Field32 → KeySize
-bitsOf four.Short = NoSize
-bitsOf (four.Value k) = pick (within 1 4096 k) (Bits k) NoSize
+-- the four-byte key size at body byte 30, for major 2 to 4 with minor 2: 40 if it is 0 (document 02, T-03, by MS-OFFCRYPTO 2.3.5.1), itself if it is 1 to 4096
+unfoldable pub bitsOf : ℕ → KeySize
+bitsOf k = pick (eqb k 0) (Bits 40) (pick (within 1 4096 k) (Bits k) NoSize)
+
+abbrev pub bitsIn : Field32 → KeySize
+bitsIn four.Short = NoSize
+bitsIn (four.Value k) = bitsOf k
 
 abbrev pub sizeOf : List ℕ → Version → KeySize
 sizeOf body NoVersion = NoSize
-sizeOf body (Pair major minor) = pick (within 2 4 major && eqb minor 2) (bitsOf (le32At body 30)) NoSize
+sizeOf body (Pair major minor) = pick (within 2 4 major && eqb minor 2) (bitsIn (le32At body 30)) NoSize
 
 -- body type 0 is XOR; any other type gives the version and the key size; missing facts are none
 abbrev pub byType : List ℕ → Field16 → Facts

@@ -6,7 +6,7 @@ ghost use Prim.Native.Nat.{_+_, _*_, _^_, _≤_, _<_, min};
 ghost use lib.ListN.{length, take, drop};
 ghost use Rattle.binary_office.specs.Fields.{le16At, le32At};
 ghost use Rattle.binary_office.specs.Walk.{stepAt, nextOf, nextAt, walk, walkedOf, neverEncrypted, clearLen};
-ghost use Rattle.binary_office.specs.Look.{versionOf, sizeOf, factsOf, scanAt, look, sameVersion, sameSize, sameFacts, sameVerdict, sameLock};
+ghost use Rattle.binary_office.specs.Look.{versionOf, bitsOf, bitsIn, sizeOf, factsOf, scanAt, look, sameVersion, sameSize, sameFacts, sameVerdict, sameLock};
 
 // A field of two bytes: its value, or that it is cut short.
 pub enum Field16 {
@@ -203,23 +203,43 @@ fn version_of(body: &[u8]) -> Version
     Version::Pair(major, minor)
 }
 
-// The key size of a FILEPASS body with a version.
+// The key size in bits, as a header states it: 0 means 40, and above 4,096 there is none.
+fn bits_of(stated: u32) -> KeySize
+    ensures { λ r. ⌜ r ≡ bitsOf stated ⌝ }
+{
+    if stated == 0 {
+        return KeySize::Bits(limits::RC4_KEY_BITS_DEFAULT);
+    }
+    if stated <= 4096 {
+        KeySize::Bits(stated)
+    } else {
+        KeySize::NoSize
+    }
+}
+
+// The key size of a FILEPASS body, if its four bytes are there.
+fn bits_in(body: &[u8]) -> KeySize
+    ensures { λ r. ⌜ r ≡ bitsIn (le32At (now (body .entry)) 30) ⌝ }
+{
+    let Field32::Value(stated) = le32(body, 30) else {
+        return KeySize::NoSize;
+    };
+    bits_of(stated)
+}
+
+// The key size of a FILEPASS body with a version, of which not all have one.
 fn size_of(body: &[u8], version: Version) -> KeySize
     ensures { λ r. ⌜ r ≡ sizeOf (now (body .entry)) version ⌝ }
 {
     let Version::Pair(major, minor) = version else {
         return KeySize::NoSize;
     };
-    if (2 <= major) & (major <= 4) & (minor == 2) {
-        let Field32::Value(bits) = le32(body, 30) else {
-            return KeySize::NoSize;
-        };
-        if (1 <= bits) & (bits <= 4096) {
-            return KeySize::Bits(bits);
-        }
-        return KeySize::NoSize;
+    let sized = (2 <= major) & (major <= 4) & (minor == 2);
+    if sized {
+        bits_in(body)
+    } else {
+        KeySize::NoSize
     }
-    KeySize::NoSize
 }
 
 // What a FILEPASS body tells of the lock.
