@@ -1,0 +1,2 @@
+pub mod KeySizes
+pub mod Scanned
