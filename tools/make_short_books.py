@@ -3,7 +3,7 @@
 
 Usage, at the root of the project: tools/make_short_books.py. Needs OpenSSL's libcrypto. The locked streams are made from plain ones by books.py, so an
 opened stream's bytes are those it was made from; each refusal is stated here beside its case, from document 01's list of questions; the verdict of
-Look is computed here, from document 01's words.
+Look is computed here, from document 01's words and document 02's (T-03), and so is whether a stream and that of the case before have the same lock.
 
 In the data a case is five parts, each behind its length of four bytes, the lower first: its name, the password, the stream, and, as parts of no bytes
 whose length alone counts, the scratch and the output. The program lends bytes (offset mod 251) + 1, which are never zero.
@@ -16,7 +16,7 @@ from books import BOF, BOUND_SHEET, EOF, FILEPASS, SEVEN, CryptoApi, Office97, X
 B = record(BOF)
 XOR = Xor()
 NONE = (0, 0, 0, 0, 0)
-cases, lines = [], []
+cases, lines, before = [], [], None
 
 
 def look(stream):
@@ -43,8 +43,10 @@ def look(stream):
     if len(body) < 6:
         return 2, NONE
     major, minor = struct.unpack_from("<HH", body, 2)
-    size = struct.unpack_from("<I", body, 30)[0] if len(body) >= 34 and 2 <= major <= 4 and minor == 2 else 0
-    return 2, (0, 1, major, minor, size if 1 <= size <= 4096 else 0)
+    if len(body) < 34 or not 2 <= major <= 4 or minor != 2:
+        return 2, (0, 1, major, minor, 0)
+    size = struct.unpack_from("<I", body, 30)[0] or 40
+    return 2, (0, 1, major, minor, size if size <= 4096 else 0)
 
 
 def lent(start, end):
@@ -53,12 +55,14 @@ def lent(start, end):
 
 def case(name, stream, password, number, facts=(), plain=None, scratch=2070, more=3, output=None):
     """One case: `number` and `facts` are what Open answers; `plain` the stream it leaves, of which None says that the output is untouched."""
+    global before
     password = password if isinstance(password, bytes) else password.encode()
     output = len(stream) + more if output is None else output
     cases.append(b"".join(struct.pack("<I", len(part)) + part for part in (name.encode(), password, stream)) + struct.pack("<II", scratch, output))
     zeros = 2064 if number == 0 or number >= 6 else 0
-    verdict, told = look(stream)
-    words = [name, f"look {verdict}:", *map(str, told), f"open {number}:", *map(str, (*facts, 0, 0, 0, 0)[:4]), f"scratch {zeros} zero, {scratch - zeros} as lent,"]
+    seen = verdict, told = look(stream)
+    same, before = verdict == 2 and seen == before, seen
+    words = [name, f"look {verdict}:", *map(str, told), f"same {same:d}", f"open {number}:", *map(str, (*facts, 0, 0, 0, 0)[:4]), f"scratch {zeros} zero, {scratch - zeros} as lent,"]
     if plain is None:
         words.append(f"output 0 written, {output} as lent")
     else:
@@ -111,6 +115,30 @@ for bits in range(0, 137):
     elif bits in (32, 39, 41, 44, 47, 127, 129, 136):
         refused(f"key size {bits}", small(CryptoApi(40, stated=bits), "calibre"), 23, (bits,))
 refused("key size 2^31 + 40", small(CryptoApi(40, stated=2 ** 31 + 40), "calibre"), 23, (2 ** 31 + 40,))
+
+# Look's key size, each beside the one before: 0 and 40 are the same lock, of one version and whatever the type other than 0; 0 and none are not
+TYPES = {kind: struct.pack("<H", kind) for kind in (2, 256, 65535)}
+for major in 2, 3, 4:
+    opened(f"version {major}.2, key size 0", CryptoApi(40, stated=0, major=major), "calibre", SMALL)
+    opened(f"version {major}.2, key size 40", CryptoApi(40, major=major), "calibre", SMALL)
+for stated in 1, 4095, 4096, 4097, 2 ** 16, 2 ** 24 + 40, 2 ** 32 - 1:
+    refused(f"key size {stated}", small(CryptoApi(40, stated=stated), "calibre"), 23, (stated,))
+    opened(f"key size 0 behind {stated}", CryptoApi(40, stated=0), "calibre", SMALL)
+ZERO, FORTY = (CryptoApi(40, stated=stated, name=b"").filepass("A") for stated in (0, 40))
+for kind, first in TYPES.items():
+    refused(f"type {kind}, key size 0", B + record(FILEPASS, first + ZERO[2:]), 11, (kind,))
+    opened(f"key size 40 behind type {kind}", CryptoApi(40), "calibre", SMALL)
+refused("type 0, key size 0", B + record(FILEPASS, b"\0\0" + ZERO[2:]), 27)
+for length in range(29, 37):
+    refused(f"key size 0, a FILEPASS body of {length}", B + record(FILEPASS, ZERO[:length]), 17, (32, length - 2))
+    refused(f"key size 40, a FILEPASS body of {length}", B + record(FILEPASS, FORTY[:length]), 17, (32, length - 2))
+    refused(f"key size 0, a FILEPASS of {length} bytes up to the end", B + record(FILEPASS, ZERO)[:4 + length], 6, (4,))
+for major in range(6):
+    for minor in range(4):
+        if (minor != 2 or not 2 <= major <= 4) and (major, minor) != (1, 1):
+            refused(f"version {major}.{minor}, key size 0", B + record(FILEPASS, struct.pack("<HHH", 1, major, minor) + ZERO[6:]), 13, (major, minor))
+OLD = Office97().filepass("A")
+refused("1.1, bytes 30 to 33 zero", B + record(FILEPASS, OLD[:30] + bytes(4) + OLD[34:]), 27)
 
 # 1: the password's length, under each lock
 for name, lock in ("1.1", Office97()), ("CryptoAPI", CryptoApi()):

@@ -1,5 +1,5 @@
-// Looks at and opens the streams in its data, through the C exports, and prints for each the two answers, what is left of
-// the scratch, and the output. tools/make_short_books.py makes the data and what is expected.
+// Looks at the streams in its data, compares the lock of each with the one before, and opens them, through the C exports;
+// prints for each the answers, what is left of the scratch, and the output. tools/make_short_books.py makes the data and what is expected.
 use libc::STDOUT_FILENO;
 use samples::lent_byte;
 use samples::number;
@@ -101,21 +101,42 @@ fn tell_output(output: &[u8]) {
     word(b"\n");
 }
 
-// Looks at a stream and opens it, with what is lent.
-fn run_lent(name: &[u8], password: &[u8], stream: &[u8], scratch: &mut [u8], output: &mut [u8]) {
+// Writes whether two streams have the same lock.
+fn tell_same(same: bool) {
+    word(b" same ");
+    count(if same { 1 } else { 0 });
+}
+
+// Looks at a stream, compares its lock with that of the one before, and opens it, with what is lent.
+fn run_lent(
+    name: &[u8],
+    password: &[u8],
+    before: &[u8],
+    stream: &[u8],
+    scratch: &mut [u8],
+    output: &mut [u8],
+) {
     let mut seen = [0u64; 8];
     let mut told = [0u64; 8];
     let verdict = sheet::sheet_look(stream, &mut seen);
     let answer = sheet::sheet_open(stream, password, scratch, output, &mut told);
     word(name);
     tell(b" look ", verdict, &seen, 5);
+    tell_same(sheet::sheet_same_lock(before, stream));
     tell(b" open ", answer, &told, 4);
     tell_scratch(scratch);
     tell_output(output);
 }
 
-// Looks at a stream and opens it, with a scratch and an output of some lengths.
-fn run(name: &[u8], password: &[u8], stream: &[u8], scratch_len: usize, output_len: usize) {
+// Runs a case, with a scratch and an output of some lengths.
+fn run(
+    name: &[u8],
+    password: &[u8],
+    before: &[u8],
+    stream: &[u8],
+    scratch_len: usize,
+    output_len: usize,
+) {
     let mut scratch = [0u8; 8192];
     let mut output = [0u8; 8192];
     samples::lend(&mut scratch);
@@ -125,6 +146,7 @@ fn run(name: &[u8], password: &[u8], stream: &[u8], scratch_len: usize, output_l
     run_lent(
         name,
         password,
+        before,
         stream,
         &mut scratch[0..s],
         &mut output[0..o],
@@ -135,20 +157,26 @@ fn run(name: &[u8], password: &[u8], stream: &[u8], scratch_len: usize, output_l
 fn run_all(data: &[u8]) {
     let mut cases: u64 = 0;
     let mut at: usize = 0;
+    let mut before: usize = 0;
+    let mut before_len: usize = 0;
     while at < data.len() {
         let name = number(data, at);
         let password = number(data, at + 4 + name);
         let stream = number(data, at + 8 + name + password);
-        let end = at + 12 + name + password + stream;
+        let start = at + 12 + name + password;
+        let end = start + stream;
         run(
             part(data, at + 4, name),
             part(data, at + 8 + name, password),
-            part(data, at + 12 + name + password, stream),
+            part(data, before, before_len),
+            part(data, start, stream),
             number(data, end),
             number(data, end + 4),
         );
         cases = std::num::wrapping_add_u64(cases, 1);
         at = end + 8;
+        before = start;
+        before_len = stream;
     }
     io::print_decimal(STDOUT_FILENO, cases);
     word(b" cases\n");

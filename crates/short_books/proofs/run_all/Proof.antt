@@ -7,10 +7,10 @@ use Rattle.short_books.proofs.run_all.Statement.{statement}
 use Rattle.short_books.proofs.run_all.Tie as tie
 
 abbrev Inv-loop : tie.InvT-loop
-Inv-loop «data» cases₀ at₀ t8 cases at = Unit
+Inv-loop «data» cases₀ at₀ before₀ before-len₀ t11 cases at before before-len = Unit
 
 abbrev μ-loop : tie.MeasureT-loop
-μ-loop «data» cases₀ at₀ t8 cases at = length «data» - at
+μ-loop «data» cases₀ at₀ before₀ before-len₀ t11 cases at before before-len = length «data» - at
 
 pub run-all-spec : {M : Type 1} → statement M
 run-all-spec =
@@ -36,9 +36,7 @@ run-all-spec =
     (λ c. search needs)
     (λ c. search needs)
     (λ c κs. search needs)
-    (λ c. search needs)
-    (λ c. search needs)
-    (λ c. search needs)
+    (λ c κs. search needs)
     (λ c κs. search needs)
     (λ c κs. search needs)
     (λ c. search needs)
