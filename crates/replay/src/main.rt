@@ -1,6 +1,7 @@
 // Runs a sample of the Rust source's own answers through the C exports: Look's verdict, Open's answer and every byte of
 // the plain stream, with the scratch and the rest of the output as they must be left. Prints how many cases had each outcome,
-// and how many differ. oracle/README.md says how the sample is made.
+// in how many Look's key size is judged by MS-OFFCRYPTO 2.3.5.1 and not by the Rust, and how many differ. oracle/README.md
+// says how the sample is made.
 use libc::STDOUT_FILENO;
 use samples::lent_byte;
 use samples::number;
@@ -14,9 +15,11 @@ fn data_buffer() -> [u8; 262144]
     [0; 262144]
 }
 
-// What came of a case: its outcome, and whether all is as the Rust has it.
+// What came of a case: its outcome, whether Look's key size is judged by the standard and not by the Rust, and whether all is
+// as it must be.
 struct Ran {
     answer: u32,
+    by_standard: bool,
     same: bool,
 }
 
@@ -36,6 +39,25 @@ fn facts_same(told: &[u64; 8], want: &[u8]) -> bool {
         i += 1;
     }
     same
+}
+
+// The key size in place of the Rust's, or 0 where the Rust's counts.
+fn instead(want: &[u8]) -> u8 {
+    first_of(part(want, 41, 1))
+}
+
+// Whether a look is the one wanted: the Rust's or, where another key size is named, the Rust's with that one for none.
+fn look_same(verdict: u32, seen: &[u64; 8], want: &[u8]) -> bool {
+    let same = verdict == first_of(want) as u32;
+    let bits = instead(want);
+    if bits == 0 {
+        return same & facts_same(seen, part(want, 1, 40));
+    }
+    same
+        & facts_same(seen, part(want, 1, 32))
+        & (number(want, 33) == 0)
+        & (number(want, 37) == 0)
+        & (seen[4] == bits as u64)
 }
 
 // Whether the first bytes of a buffer are zero.
@@ -71,8 +93,8 @@ fn output_same(output: &[u8], answer: u32, plain: &[u8]) -> bool {
     }
 }
 
-// Runs a case with what is lent. What is wanted: the verdict's number, five facts, the answer's number, four facts, and the
-// plain stream where there is one.
+// Runs a case with what is lent. What is wanted: the verdict's number, five facts, the key size in place of the last of them
+// or 0, the answer's number, four facts, and the plain stream where there is one.
 fn run_lent(
     password: &[u8],
     stream: &[u8],
@@ -84,12 +106,13 @@ fn run_lent(
     let mut told = [0u64; 8];
     let verdict = sheet::sheet_look(stream, &mut seen);
     let answer = sheet::sheet_open(stream, password, scratch, output, &mut told);
-    let looked = (verdict == first_of(want) as u32) & facts_same(&seen, part(want, 1, 40));
-    let opened = (answer as usize == number(want, 41)) & facts_same(&told, part(want, 45, 32));
+    let looked = look_same(verdict, &seen, want);
+    let opened = (answer as usize == number(want, 42)) & facts_same(&told, part(want, 46, 32));
     let wiped = zeros(scratch, 2064) & as_lent(scratch, 2064);
-    let written = output_same(output, answer, part(want, 77, stream.len()));
+    let written = output_same(output, answer, part(want, 78, stream.len()));
     Ran {
         answer,
+        by_standard: instead(want) != 0,
         same: looked & opened & wiped & written,
     }
 }
@@ -103,11 +126,12 @@ fn run(password: &[u8], stream: &[u8], want: &[u8]) -> Ran {
     run_lent(password, stream, want, &mut scratch, &mut output)
 }
 
-// How many cases had each outcome, 0 for a stream that opens and else the refusal's number; behind them, how many differ.
-const KINDS: usize = 29;
+// How many cases had each outcome, 0 for a stream that opens and else the refusal's number; behind them, how many differ, and
+// in how many Look's key size is judged by the standard.
+const KINDS: usize = 30;
 
 fn counted(counts: &mut [u64; KINDS], k: usize) {
-    if k < 29 {
+    if k < 30 {
         counts[k] = std::num::wrapping_add_u64(counts[k], 1);
     }
 }
@@ -127,6 +151,9 @@ fn run_all(data: &[u8], counts: &mut [u64; KINDS]) {
         counted(counts, ran.answer as usize);
         if !ran.same {
             counted(counts, 28);
+        }
+        if ran.by_standard {
+            counted(counts, 29);
         }
         at = at + 12 + password + stream + want;
     }
@@ -152,6 +179,9 @@ fn main() {
         io::write_all(STDOUT_FILENO, b"\n");
         k += 1;
     }
+    io::write_all(STDOUT_FILENO, b"key size 0 as 40\t");
+    io::print_decimal(STDOUT_FILENO, counts[29]);
+    io::write_all(STDOUT_FILENO, b"\n");
     io::print_decimal(STDOUT_FILENO, counts[28]);
     io::write_all(STDOUT_FILENO, b" differ\n");
 }

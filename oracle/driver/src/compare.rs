@@ -27,6 +27,8 @@ pub struct Compare {
     before: Before,
     cases: u64,
     looks: [u64; 3],
+    /// How many of the looks are judged by MS-OFFCRYPTO 2.3.5.1 and not by the Rust.
+    by_standard: u64,
     pairs: [u64; 2],
     numbers: BTreeMap<u32, u64>,
     /// By lock, key bits and whether the summary is sealed.
@@ -76,16 +78,20 @@ impl Compare {
         self.before = look.ok().map(|look| (case.stream, look));
     }
 
-    /// The oracle's answers, and in what the port's differ.
+    /// The oracle's answers, with the standard's key size where that decides, and in what the port's differ.
     fn faults(&mut self, case: &Case, faults: &mut Vec<String>) -> (Result<Look, String>, Result<Answer, String>) {
         let stream = &case.stream[..];
         let password = std::str::from_utf8(&case.password).unwrap_or("");
         let container = oracle::container(stream, password);
 
-        let look = oracle::look(&container);
-        match &look {
+        let mut look = oracle::look(&container);
+        match &mut look {
             Err(text) => faults.push(format!("look: the oracle gives {text}")),
             Ok(look) => {
+                if let Some(key_size) = paper::instead(stream, *look) {
+                    look.1[4] = key_size;
+                    self.by_standard += 1;
+                }
                 self.compare_looks(stream, look, faults);
             }
         }
@@ -197,6 +203,7 @@ impl Compare {
     pub fn summary(mut self, seed: u64) -> bool {
         println!("cases\t{}", self.cases);
         println!("look\tunknown {}, no {}, yes {}", self.looks[0], self.looks[1], self.looks[2]);
+        println!("of them judged by MS-OFFCRYPTO 2.3.5.1, key size 0 as 40\t{}", self.by_standard);
         println!("same lock\tno {}, yes {}", self.pairs[0], self.pairs[1]);
         println!("number\tcases");
         for (number, count) in &self.numbers {
@@ -228,7 +235,7 @@ impl Compare {
         self.differences == 0 && never.is_empty()
     }
 
-    /// Of what can occur in a run: questions 1 to 3 and 5 to 27, and every lock with each of its key sizes.
+    /// Of what can occur in a run: questions 1 to 3 and 5 to 27, every lock with each of its key sizes, and a key size of 0 in Look.
     fn never(&self) -> Vec<String> {
         let numbers = (0..=27).filter(|number| *number != 4 && !self.numbers.contains_key(number)).map(|number| number.to_string());
         let mut reports = vec![[0, 0, 0], [1, 40, 0]];
@@ -236,7 +243,8 @@ impl Compare {
             reports.extend([[2, key_bits, 0], [2, key_bits, 1]]);
         }
         let reports = reports.iter().filter(|report| !self.opened.contains_key(*report)).map(|report| format!("opened {report:?}"));
-        numbers.chain(reports).collect()
+        let by_standard = (self.by_standard == 0).then(|| "look at a key size of 0".to_string());
+        numbers.chain(reports).chain(by_standard).collect()
     }
 }
 

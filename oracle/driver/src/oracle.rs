@@ -30,7 +30,7 @@ pub fn container(stream: &[u8], password: &str) -> Vec<u8> {
     cfb::file_of(&[(WORKBOOK, stream), (SUMMARY, &summary)])
 }
 
-/// Look: 0 unknown, 1 no, 2 yes, and five facts: XOR mark, whether the version is there, major, minor, key size.
+/// Look, as the Rust has it: 0 unknown, 1 no, 2 yes, and five facts: XOR mark, whether the version is there, major, minor, key size.
 pub fn look(container: &[u8]) -> Result<(u32, [u64; 5]), String> {
     let verdict = guarded(|| reference::look(container))?.ok_or("no verdict")?;
     let number = match verdict.encrypted {

@@ -1,5 +1,5 @@
 //! What document 01's words say of a stream where the Rust gives no value: the number of records, the lock and its key bits,
-//! the flags of questions 18 to 20, and questions 1 to 5.
+//! the flags of questions 18 to 20, and questions 1 to 5. And what document 02's words say where the Rust says otherwise.
 
 use crate::port::{PASSWORD_MAX_LEN, SCRATCH_LEN, STREAM_MAX_LEN};
 
@@ -64,6 +64,28 @@ pub fn filepass(stream: &[u8]) -> Option<&[u8]> {
 /// The flags of a CryptoAPI lock: at header byte 0, which is structure byte 12 and body byte 14.
 pub fn flags(stream: &[u8]) -> Option<u32> {
     u32_at(filepass(stream)?, 14)
+}
+
+/// The key size in bits that Look reports where the four bytes are there and 0: document 02, T-03, by MS-OFFCRYPTO 2.3.5.1.
+pub const ZERO_MEANS: u64 = 40;
+
+/// The four bytes of the key size, if all of them lie in the first FILEPASS body and among the bytes that Look reads. Asked only where Look
+/// says yes, so the headers before that FILEPASS are whole.
+fn stated_key_size(stream: &[u8]) -> Option<u32> {
+    let book = &stream[..stream.len().min(LOOK_CAP)];
+    let mut at = 0;
+    while u16_at(book, at)? != FILEPASS {
+        at += 4 + u16_at(book, at + 2)? as usize;
+    }
+    let end = at + 4 + u16_at(book, at + 2)? as usize;
+    u32_at(&book[..book.len().min(end)], at + 34)
+}
+
+/// The key size in place of the Rust's, where the standard decides: a lock of version 2.2, 3.2 or 4.2 that states a key size of 0, for which the Rust
+/// reports none.
+pub fn instead(stream: &[u8], (number, [_, there, major, minor, key_size]): (u32, [u64; 5])) -> Option<u64> {
+    let sized = number == 2 && there == 1 && (2..=4).contains(&major) && minor == 2;
+    (sized && key_size == 0 && stated_key_size(stream) == Some(0)).then_some(ZERO_MEANS)
 }
 
 /// The number of records, the lock (0 XOR, 1 the 1.1 lock, 2 CryptoAPI) and the key bits of a stream that was opened.

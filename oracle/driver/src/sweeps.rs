@@ -232,8 +232,8 @@ fn around_cap(give: &mut dyn FnMut(Case)) {
     let mut random = Random::new(0, 1);
     let mut index = 0;
     let books = small_books(&mut random);
-    // one book of each family
-    for (stream, password) in [&books[0], &books[2], &books[4]] {
+    // one book of each family, and one that states a key size of 0
+    for (stream, password) in [&books[0], &books[2], &books[4], &books[7]] {
         for at in LOOK_CAP - 42..LOOK_CAP + 3 {
             for longest in [65_535, 3] {
                 let mut book = clear_chain(at, longest, &mut random);
