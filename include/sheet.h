@@ -67,11 +67,18 @@ extern "C" {
  * Answers 0 unknown (no workbook stream, or cut before it can be told), 1 no, 2 yes.
  * All eight facts are written, whatever the answer. On yes: facts[0] is 1 if the lock is XOR; facts[1] is 1 if
  * the lock's version is there, then facts[2] is its major and facts[3] its minor number; facts[4] is the key size
- * in bits that the lock states, 0 for none. All others are 0. */
+ * in bits, 0 for none. All others are 0.
+ *
+ * A key size is read for versions 2.2, 3.2 and 4.2 and for no other. facts[4] is 40 where they state 0, which means
+ * 40 to sheet_open too ([MS-OFFCRYPTO] 2.3.5.1); what they state from 1 to 4,096; and none above that, or if the four
+ * bytes are not all there. For a stream that sheet_open opens as RC4 CryptoAPI it is proved to be sheet_open's facts[2] if
+ * the offset of the first FILEPASS record's header is at most 1,048,538, and to be none otherwise: the key size then
+ * ends behind the bytes that are read here. */
 uint32_t sheet_look(const uint8_t *stream, size_t stream_len, uint64_t facts[8]);
 
 /* Whether two workbooks have the same lock, as far as sheet_look tells: both are locked, and XOR mark, version
- * and key size agree. */
+ * and key size agree. So locks of one version that state 0 and 40 are the same; one that states 0 and one without a
+ * key size are not. */
 bool sheet_same_lock(const uint8_t *a, size_t a_len, const uint8_t *b, size_t b_len);
 
 /* The record whose header is at an offset of a stream: to list the records, start at 0 and go on at at + 4 + facts[1].

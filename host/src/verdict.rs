@@ -21,7 +21,9 @@ pub struct Facts {
     /// The lock's version, major and minor, where it is there: 1.1 is Office 97 RC4; 2.2, 3.2 and
     /// 4.2 are RC4 CryptoAPI.
     pub version: Option<(u16, u16)>,
-    /// The key size in bits that an RC4 CryptoAPI lock states.
+    /// The key size in bits, of an RC4 CryptoAPI lock alone: what it states from 1 to 4,096, and 40
+    /// where it states 0, as [`open`](crate::open) takes it. Where such a lock opens it is the
+    /// [`Report`](crate::Report)'s, if the four bytes lie among those that are read.
     pub key_size: Option<u32>,
 }
 
@@ -57,7 +59,8 @@ pub fn look(stream: &[u8]) -> Verdict {
 }
 
 /// Tells whether two workbooks have the same lock, as far as [`look`] tells: both are locked, and
-/// XOR mark, version and key size agree.
+/// XOR mark, version and key size agree. Locks of one version that state key sizes of 0 and of 40 are
+/// the same.
 ///
 /// ```
 /// let xor = [0x09, 0x08, 0, 0, 0x2F, 0, 6, 0, 0, 0, 0x15, 0xB9, 0xC8, 0xCE];

@@ -190,6 +190,27 @@ fn open_writes_the_plain_stream() {
 }
 
 #[test]
+fn look_tells_the_key_size_that_open_reports() {
+    let bench = Bench::new();
+    let mut book = Book::small(Kind::CryptoApi(40, false));
+    let at = book.filepass().0 + 4 + 30;
+    book.locked[at..at + 4].copy_from_slice(&[0; 4]);
+    bench.write("book", &book.locked);
+    let line = |ran: Ran| {
+        assert_eq!((ran.status, &ran.err[..]), (Some(0), ""));
+        let mut lines = ran.out.lines().filter(|line| line.starts_with("key size"));
+        (lines.next().map(str::to_string), lines.count())
+    };
+    let told = (Some("key size\t40".to_string()), 0);
+    assert_eq!(line(bench.run("look book")), told);
+    assert_eq!(
+        line(bench.run_with("open book -o plain", book.password)),
+        told
+    );
+    assert!(bench.read("plain") == book.plain);
+}
+
+#[test]
 fn open_reports_every_lock() {
     let bench = Bench::new();
     for kind in KINDS {
