@@ -36,6 +36,14 @@ asked-on ps qs e = asked-append ps qs ∙ rw (← e)
 pub asked-stop : (ps qs : List Question) (r : Refusal) → some r ≡ asked ps → some r ≡ asked (ps ++ qs)
 asked-stop ps qs r e = sym (asked-append ps qs ∙ rw (← e))
 
+-- a refusal of both together is one's or the other's
+pub from-either : (ps qs : List Question) (r : Refusal) (P : Type 0) → (asked ps ≡ some r → P) → (asked qs ≡ some r → P) → asked (ps ++ qs) ≡ some r → P
+from-either ps qs r P f g e = go (asked ps) refl
+  where
+    go : (o : Option Refusal) → o ≡ asked ps → P
+    go none h = g (sym (asked-on ps qs h) ∙ e)
+    go (some q) h = f (sym h ∙ asked-stop ps qs q h ∙ e)
+
 module _ {t : Bool} (qs : List Question) where
   pub only-yes : t ≡ true → only t qs ≡ qs
   unfolding only

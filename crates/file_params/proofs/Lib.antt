@@ -1,3 +1,4 @@
 pub mod Fields
 pub mod Laws
 pub mod Numbers
+pub mod Tables

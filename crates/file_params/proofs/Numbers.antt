@@ -11,7 +11,7 @@ use lib.Dec.{eqb, leb}
 use lib.ListN.{length, getD}
 use Rattle.laws.specs.Choice.{pick}
 use Rattle.file_params.specs.declared.Refusal.the-variants.{WrongPassword}
-use Rattle.file_params.specs.Questions.{Question, ask, only, lent, inOrder, locked, book, encryptionType, version, office97, cryptoApi, rc4, lock, questions, filepassBody, structureOf, typeOf, isOffice97, isCryptoApi}
+use Rattle.file_params.specs.Questions.{Question, ask, only, lent, inOrder, locked, book, encryptionType, version, office97, cryptoApi, rc4, lock, ofStream, questions, filepassBody, structureOf, typeOf, isOffice97, isCryptoApi}
 use Rattle.file_params.specs.Numbers.{numbers, expected, Numbered, Rising}
 
 -- a test that a list never falls, from a number on
@@ -45,7 +45,7 @@ as-joined : (stream password scratch output : List ℕ) (passes : Bool)
     → let body = filepassBody stream in
     let structure = structureOf body in
     numbers (questions stream password scratch output passes) ≡ expected (eqb (typeOf body) 1) (isOffice97 structure) (isCryptoApi structure)
-unfolding questions lent book inOrder locked lock encryptionType only pick rc4 version office97 cryptoApi
+unfolding questions ofStream lent book inOrder locked lock encryptionType only pick rc4 version office97 cryptoApi
 as-joined stream password scratch output passes = go (eqb (typeOf body) 1) (isOffice97 structure) (isCryptoApi structure)
   where
     body : List ℕ

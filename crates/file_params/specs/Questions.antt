@@ -202,10 +202,15 @@ rc4 structure = version structure ++ (only (isOffice97 structure) (office97 stru
 unfoldable pub lock : (body : List ℕ) → List Question
 lock body = encryptionType body ++ only (eqb (typeOf body) 1) (rc4 (structureOf body))
 
+-- of the stream alone, past its length
+unfoldable pub ofStream : (stream : List ℕ) → List Question
+ofStream stream =
+    book stream  -- 6 to 9
+    ++ lock (filepassBody stream)  -- 10 to 26
+
 -- all of them; `passes` is whether the password passes the check of the lock
 unfoldable pub questions : (stream password scratch output : List ℕ) → (passes : Bool) → List Question
 questions stream password scratch output passes =
-    lent password (length stream) (length scratch) (length output)
-    ++ (book stream
-    ++ (lock (filepassBody stream)
-    ++ (ask passes WrongPassword ∷ [])))  -- 27
+    lent password (length stream) (length scratch) (length output)  -- 1 to 5
+    ++ (ofStream stream  -- 6 to 26
+    ++ (ask passes WrongPassword ∷ []))  -- 27
