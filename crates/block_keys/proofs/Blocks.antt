@@ -5,7 +5,7 @@ use mathlib.Core.Path.{_≡_, refl, sym, ap, _∙_}
 use mathlib.Core.Bool.{true, false}
 use mathlib.Core.List.{List, [], _∷_, _++_}
 use Prim.Native.Nat.{ℕ, zero, suc, _+_, _-_, _*_, _/_, _%_, _^_, _≤_, _<_, min}
-use native.Mathlib.Nat.{suc-mul, mod-lt}
+use native.Mathlib.Nat.{suc-mul, mod-lt, mul-le-mul-right, div-add-mod'}
 use native.Mathlib.Numerals.{add-one}
 use native.Mathlib.Omega.{arith}
 use borrow.Author.Tests.{lt-ltb, le-ltb, ne-eqb, eq-eqb}
@@ -26,7 +26,7 @@ use Rattle.rc4_cryptoapi.specs.Keys as cryptoapi
 use Rattle.block_keys.specs.declared.Kind.{Kind}
 use Rattle.block_keys.specs.declared.Kind.the-variants.{Office97, CryptoApi}
 use Rattle.block_keys.specs.declared.Schedule.{Schedule}
-use Rattle.block_keys.specs.BlockKeys.{keyBy, blockKey, keystreamAt, decipheredAt, Decrypts}
+use Rattle.block_keys.specs.BlockKeys.{keyBy, blockKey, keystreamAt, decipheredAt, startedBlocks, Decrypts}
 use Rattle.block_keys.proofs.Parts.{written-by, lent-part, part-size}
 
 -- the key takes a block's number by its four low bytes
@@ -109,6 +109,41 @@ pub fewer : (b s : ℕ) → 1 ≤ s → b ≤ b * s
 fewer zero s h = omega arith
 fewer (suc b) s h = let k = fewer b s h in rw (suc-mul b s) (omega arith)
 
+-- the blocks that n bytes start: as many as reach them, and no block more
+module _ (size n : ℕ) (some : 1 ≤ size) where
+  parts : n + (size - 1) ≡ startedBlocks size n * size + (n + (size - 1)) % size
+  unfolding startedBlocks
+  parts = sym (div-add-mod' (n + (size - 1)) size)
+
+  rest : (n + (size - 1)) % size < size
+  rest = mod-lt (n + (size - 1)) some
+
+  -- a block is one of them exactly if it begins before the n-th byte
+  pub begins : (i : ℕ) → i < startedBlocks size n → i * size < n
+  begins i h =
+      let p = parts in
+      let r = rest in
+      let s : (i + 1) * size ≤ startedBlocks size n * size = mul-le-mul-right size (omega arith) in
+      let o = one-more i size in
+      omega arith
+
+  pub begun : (i : ℕ) → i * size < n → i < startedBlocks size n
+  begun i h =
+      either (startedBlocks size n) i
+      (λ k. let p = parts in let r = rest in let s : startedBlocks size n * size ≤ i * size = mul-le-mul-right size k in absurd (no p r s))
+      (λ k. k)
+    where
+      no : n + (size - 1) ≡ startedBlocks size n * size + (n + (size - 1)) % size → (n + (size - 1)) % size < size → startedBlocks size n * size ≤ i * size → ⊥
+      no p r s = omega arith
+
+pub started-are : (size n b : ℕ) → n ≤ b * size → b * size < n + size → b ≡ startedBlocks size n
+unfolding startedBlocks
+started-are size n b h k =
+    let r : ℕ = n + (size - 1) - b * size in
+    let short : r < size = omega arith in
+    let parts : n + (size - 1) ≡ b * size + r = omega arith in
+    sym (ap (λ (m : ℕ). m / size) parts ∙ digits-div b short)
+
 module _ (size : ℕ) (keyOf : ℕ → List ℕ) (s d d₁ d₂ : List ℕ) (block at : ℕ) (e : at ≡ block * size) where
   -- what two blocks side by side wrote is the stream's
   pub pair-more : Written (decipheredAt size keyOf s) 0 at d d₁
@@ -141,15 +176,16 @@ module _ (size : ℕ) (keyOf : ℕ → List ℕ) (s d d₁ d₂ : List ℕ) (blo
 
 -- the whole
 module _ (size : ℕ) (keyOf : ℕ → List ℕ) (s d : List ℕ) where
-  pub no-blocks : size ≡ 0 → Decrypts size keyOf s d d
-  no-blocks e = record { bytes = stop _ (eq-eqb size 0 e) }
+  pub no-blocks : size ≡ 0 → Decrypts size keyOf s d 0 d
+  no-blocks e = record { bytes = stop _ (eq-eqb size 0 e); counted = stop _ (eq-eqb size 0 e) }
 
-  pub all-blocks : (size ≡ 0 → ⊥) → (n b : ℕ) (d₁ d₂ : List ℕ) → n ≡ min (length s) (length d) → b * size ≤ n
-      → Written (decipheredAt size keyOf s) 0 (b * size) d d₁ → Written (decipheredAt size keyOf s) (b * size) n d₁ d₂
-      → Decrypts size keyOf s d d₂
-  all-blocks z n b d₁ d₂ e h v w =
+  pub all-blocks : (size ≡ 0 → ⊥) → (n b keys : ℕ) (d₁ d₂ : List ℕ) → n ≡ min (length s) (length d) → b * size ≤ n
+      → Written (decipheredAt size keyOf s) 0 (b * size) d d₁ → keys ≡ startedBlocks size n → Written (decipheredAt size keyOf s) (b * size) n d₁ d₂
+      → Decrypts size keyOf s d keys d₂
+  all-blocks z n b keys d₁ d₂ e h v c w =
       let l : n ≤ length d = omega arith in
       record {
         bytes = skip d (ne-eqb size 0 z)
             (written-all (decipheredAt size keyOf s) n d d₂ l (written-join (decipheredAt size keyOf s) 0 (b * size) n d d₁ d₂ (omega arith) h v w) ∙ rw e);
+        counted = skip 0 (ne-eqb size 0 z) (c ∙ ap (startedBlocks size) e);
       }

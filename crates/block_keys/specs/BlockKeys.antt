@@ -2,7 +2,7 @@
 -- as document 01 has them ("The three locks").
 -- Assumes nothing.
 use mathlib.Core.Path.{_≡_}
-use Prim.Native.Nat.{ℕ, zero, suc, _+_, _/_, _%_, min}
+use Prim.Native.Nat.{ℕ, zero, suc, _+_, _-_, _/_, _%_, min}
 use mathlib.Core.Bool.{Bool, true, _&&_}
 use mathlib.Core.List.{List, _++_}
 use lib.Bits.{bitXor}
@@ -41,9 +41,15 @@ keystreamAt size keyOf offset = keystreamByte (keyOf (offset / size)) (offset % 
 abbrev pub decipheredAt : ℕ → (ℕ → List ℕ) → List ℕ → ℕ → ℕ
 decipheredAt size keyOf s offset = bitXor (getD s offset 0) (keystreamAt size keyOf offset)
 
--- what deciphering s into d leaves, for blocks of at least a byte: as many bytes as both have room for
-pub record Decrypts (size : ℕ) (keyOf : ℕ → List ℕ) (s d d′ : List ℕ) : Type 0 where
+-- how many blocks of so many bytes the first n bytes start
+unfoldable pub startedBlocks : (size n : ℕ) → ℕ
+startedBlocks size n = (n + (size - 1)) / size
+
+-- what deciphering s into d leaves, for blocks of at least a byte: as many bytes as both have room for; and how many keys that takes, one for each block
+-- that those bytes start
+pub record Decrypts (size : ℕ) (keyOf : ℕ → List ℕ) (s d : List ℕ) (keys : ℕ) (d′ : List ℕ) : Type 0 where
   pub bytes : d′ ≡ pick (eqb size 0) d (tabulate (decipheredAt size keyOf s) (min (length s) (length d)) ++ drop (min (length s) (length d)) d)
+  pub counted : keys ≡ pick (eqb size 0) 0 (startedBlocks size (min (length s) (length d)))
 
 -- the digest that a verifier is checked by, and its length
 abbrev pub digestBy : Kind → List ℕ → List ℕ

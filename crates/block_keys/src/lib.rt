@@ -14,7 +14,7 @@ ghost use Rattle.rc4.specs.Rc4.{keyed, keystreamByte};
 ghost use Rattle.file_params.specs.Questions.{asked, office97, cryptoApi};
 ghost use Rattle.password_digest.specs.Digest.{sha1Of, md5Of, Digests};
 ghost use Rattle.rc4_office97.specs.Keys.{truncated};
-ghost use Rattle.block_keys.specs.BlockKeys.{blockKey, decipheredAt, Decrypts, agree, verified};
+ghost use Rattle.block_keys.specs.BlockKeys.{blockKey, decipheredAt, startedBlocks, Decrypts, agree, verified};
 ghost use Rattle.block_keys.specs.Lock.{office97Lock, cryptoApiLock, unless, part, schemeOf, Schedules};
 
 // The family of an RC4 lock.
@@ -390,10 +390,18 @@ fn decrypt_pairs(schedule: Schedule, size: usize, n: usize, src: &[u8], dst: &mu
     block
 }
 
-// Deciphers the blocks from a number on, one after the other, up to the n-th byte.
-fn decrypt_rest(schedule: Schedule, size: usize, from: usize, n: usize, src: &[u8], dst: &mut [u8])
+// Deciphers the blocks from a number on, one after the other, up to the n-th byte, and tells how many blocks there are
+// up to there, the ones before that number too.
+fn decrypt_rest(
+    schedule: Schedule,
+    size: usize,
+    from: usize,
+    n: usize,
+    src: &[u8],
+    dst: &mut [u8],
+) -> usize
     requires { ⌜ (1 ≤ size) × (from * size ≤ n) × (n ≤ length (now src)) × (n ≤ length (now dst)) ⌝ }
-    ensures { λ _. ⌜ Written (decipheredAt size (blockKey schedule) (now (src .entry))) (from * size) n (now (dst .entry)) (now (dst .exit)) ⌝ }
+    ensures { λ r. ⌜ (r ≡ startedBlocks size n) × Written (decipheredAt size (blockKey schedule) (now (src .entry))) (from * size) n (now (dst .entry)) (now (dst .exit)) ⌝ }
 {
     let mut block = from;
     let mut at = from * size;
@@ -403,17 +411,19 @@ fn decrypt_rest(schedule: Schedule, size: usize, from: usize, n: usize, src: &[u
         at = end;
         block += 1;
     }
+    block
 }
 
 // Deciphers src into dst in blocks of so many bytes, the first at offset 0, each under its own key: as many bytes as
-// both have room for. Blocks of no bytes there are none: with a size of 0 dst stays as it is.
-pub fn decrypt_in_blocks(schedule: Schedule, size: usize, src: &[u8], dst: &mut [u8])
-    ensures { λ _. ⌜ Decrypts size (blockKey schedule) (now (src .entry)) (now (dst .entry)) (now (dst .exit)) ⌝ }
+// both have room for. Tells how many keys it derived. Blocks of no bytes there are none: with a size of 0 dst stays as
+// it is.
+pub fn decrypt_in_blocks(schedule: Schedule, size: usize, src: &[u8], dst: &mut [u8]) -> usize
+    ensures { λ r. ⌜ Decrypts size (blockKey schedule) (now (src .entry)) (now (dst .entry)) r (now (dst .exit)) ⌝ }
 {
     if size == 0 {
-        return;
+        return 0;
     }
     let n = least(src.len(), dst.len());
     let blocks = decrypt_pairs(schedule, size, n, src, dst);
-    decrypt_rest(schedule, size, blocks, n, src, dst);
+    decrypt_rest(schedule, size, blocks, n, src, dst)
 }

@@ -1,7 +1,5 @@
 -- `block_keys::decrypt_in_blocks` meets its contract: pairs of blocks, and then what is left.
 -- Assumes nothing.
-use mathlib.Core.Path.{_≡_}
-use native.Mathlib.Omega.{arith}
 use Rattle.block_keys.specs.BlockKeys.{blockKey}
 use borrow.Author.Needs.{needs}
 use Rattle.block_keys.proofs.Blocks.{no-blocks, all-blocks}
@@ -22,9 +20,9 @@ returns-2 c =
     let at-if1 = at-least .before in
     let start = at-if1 .before .before .before in
     let args = start .args in
-    all-blocks (args .size) (blockKey (args .schedule)) (args .src .now) (args .dst .now) (at-if1 .if1 .left) _ _ _ _ (at-least .least .ensures)
+    all-blocks (args .size) (blockKey (args .schedule)) (args .src .now) (args .dst .now) (at-if1 .if1 .left) _ _ _ _ _ (at-least .least .ensures)
     (at-decrypt-pairs .decrypt-pairs .ensures .0) (at-decrypt-pairs .decrypt-pairs .ensures .1)
-    (at-decrypt-rest .decrypt-rest .ensures)
+    (at-decrypt-rest .decrypt-rest .ensures .0) (at-decrypt-rest .decrypt-rest .ensures .1)
 
 pub decrypt-in-blocks-spec : {M : Type 1} → statement M
 decrypt-in-blocks-spec =

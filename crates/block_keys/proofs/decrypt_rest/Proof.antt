@@ -7,13 +7,14 @@ use native.Mathlib.Omega.{arith}
 use lib.ListN.{length}
 use Rattle.laws.proofs.Written.{Written, written-none}
 use Rattle.block_keys.specs.BlockKeys.{blockKey, decipheredAt}
-use Rattle.block_keys.proofs.Blocks.{one-more, fewer, block-more}
+use Rattle.block_keys.proofs.Blocks.{one-more, fewer, started-are, block-more}
 use Rattle.block_keys.proofs.decrypt_rest.Statement.{statement}
 use Rattle.block_keys.proofs.decrypt_rest.Tie as tie
 
 abbrev Inv-loop : tie.InvT-loop
 Inv-loop schedule size from n src dst₀ block₀ at₀ dst block at =
-    (from * size ≤ at) × (at ≤ n) × (at < n → at ≡ block * size) × Written (decipheredAt size (blockKey schedule) src) (from * size) at dst₀ dst
+    (from * size ≤ at) × (at ≤ n) × (at < n → at ≡ block * size) × (at ≤ block * size) × (block * size < at + size)
+    × Written (decipheredAt size (blockKey schedule) src) (from * size) at dst₀ dst
 
 abbrev μ-loop : tie.MeasureT-loop
 μ-loop schedule size from n src dst₀ block₀ at₀ dst block at = n - at
@@ -24,7 +25,9 @@ mul-at c =
     let p = start .pre .1 in let s = start .pre .2 in omega (arith, start .good)
 
 loop-holds : tie.Need-loop-holds Inv-loop μ-loop
-loop-holds c = (search needs, c .before .before .pre .1, λ h. refl, written-none _ _ _)
+loop-holds c =
+    let start = c .before .before in
+    let p = start .pre .0 in (search needs, start .pre .1, λ h. refl, search needs, omega arith, written-none _ _ _)
 
 add-end : tie.Need-add-end Inv-loop μ-loop
 add-end c =
@@ -43,7 +46,7 @@ decrypt-block-requires c κs =
     let h = at-loop .loop .inv .1 in
     let s = start .pre .2 in
     let d = start .pre .3 in
-    let w = at-loop .loop .inv .3 .same in
+    let w = at-loop .loop .inv .5 .same in
     (omega arith, omega arith, omega arith)
 
 add-block : tie.Need-add-block Inv-loop μ-loop
@@ -83,16 +86,20 @@ loop-again c =
     let e = at-least .least .ensures in
     let g = l .inv .2 (at-loop-test .loop-test .taken) in
     let t = at-loop-test .loop-test .taken in
-    let h = l .inv .0 in (
+    let h = l .inv .0 in
+    let p = start .pre .0 in
+    let o = one-more (l .block) (args .size) in (
       omega arith,
       omega arith,
-      (λ k. ap (λ (m : ℕ). l .at + m) (next (args .size) (args .n) (l .at) _ e k) ∙ ap (λ (n : ℕ). n + args .size) g ∙ sym (one-more (l .block) (args .size))),
+      (λ k. ap (λ (m : ℕ). l .at + m) (next (args .size) (args .n) (l .at) _ e k) ∙ ap (λ (n : ℕ). n + args .size) g ∙ sym o),
+      omega arith,
+      omega arith,
       block-more (args .size) (blockKey (args .schedule)) (args .src .now) (args .dst .now) (l .dst) _ (l .block) (l .at) g _ _ h (omega arith) (omega arith)
-          (l .inv .3) (at-decrypt-block .decrypt-block .ensures),
+          (l .inv .5) (at-decrypt-block .decrypt-block .ensures),
     )
 
 same-length : tie.Need-same-length Inv-loop μ-loop
-same-length c = c .before .loop .inv .3 .same
+same-length c = c .before .loop .inv .5 .same
 
 returns : tie.Need-returns Inv-loop μ-loop
 returns c =
@@ -100,7 +107,7 @@ returns c =
     let l = c .before .loop in
     let h = l .inv .1 in
     let e : l .at ≡ start .args .n = search needs in
-    rw (← e) (l .inv .3)
+    (started-are (start .args .size) (start .args .n) (l .block) (rw (← e) (l .inv .3)) (rw (← e) (l .inv .4)), rw (← e) (l .inv .5))
 
 pub decrypt-rest-spec : {M : Type 1} → statement M
 decrypt-rest-spec =
