@@ -13,18 +13,17 @@ use lib.ListN.{length, getD, take, length-append}
 use lib.Seq.{getD-take, length-take-le}
 use Rattle.laws.specs.Choice.{pick}
 use Rattle.laws.proofs.Choice.{taken, left, either}
-use Rattle.binary_office.specs.declared.WalkEnd.{WalkEnd}
 use Rattle.binary_office.specs.declared.WalkEnd.the-variants as end
 use Rattle.binary_office.specs.Walk.{BiffRecord, walk}
 use Rattle.file_params.specs.declared.Refusal.{Refusal}
 use Rattle.file_params.specs.declared.Refusal.the-variants.{StreamTooLarge, BiffRecordUnreadable, WorkbookBofMissing, BoundSheetStart, BofEofUnpaired}
-use Rattle.file_params.specs.Questions.{asked, inOrder, lent, book, questions, clean, filepassBody, faultAt, startsBof, isSome, orZero}
+use Rattle.file_params.specs.Questions.{asked, inOrder, clean, faultAt, startsBof, isSome, orZero}
 use Rattle.excel97.specs.declared.Report.{Report}
 use Rattle.excel97.specs.declared.Answer.the-variants.{Opened}
-use Rattle.excel97.specs.Open.{passes, plain, outcome, Opens}
+use Rattle.excel97.specs.Open.{Opens}
 use Rattle.excel97.specs.Demand3.{Plain}
-use Rattle.file_params.proofs.Laws.{none-of-both, first-yes}
-use Rattle.excel97.proofs.Answers.{Ran, Opening, opening}
+use Rattle.survey.proofs.Told.{ends-clean}
+use Rattle.excel97.proofs.Settled.{HasOpened, has-opened}
 use Rattle.excel97.proofs.PlainBytes.{plain-left, in-stream, length-plain}
 use Rattle.directory.specs.declared.Start.the-variants.{At, Nothing}
 use Rattle.directory.specs.declared.Sheets.{Sheets}
@@ -272,28 +271,14 @@ module _ (s : List ℕ) (place : ℕ) where
 
 -- a run that opened: the walk ends cleanly, and the plain stream is written
 module _ (s p scratch output : List ℕ) (told : Report) (scratch′ output′ : List ℕ) (run : Opens s p scratch output (Opened told) scratch′ output′) where
-  abbrev asking : Option Refusal
-  asking = asked (questions s p scratch output (passes (filepassBody s) p))
+  opened : HasOpened s p output told output′
+  opened = has-opened s p scratch output told scratch′ output′ run
 
-  this : Ran s p scratch output asking (Opened told) scratch′ output′
-  unfolding outcome
-  this = record { answered = run .answered; scratch-left = run .scratch-left; output-left = run .output-left }
-
-  opened : Opening s p scratch output (Opened told) scratch′ output′ asking told
-  opened = opening s p scratch output (Opened told) scratch′ output′ asking this told refl
-
-  by-end : (w : WalkEnd) → clean w ≡ true → w ≡ end.Clean
-  by-end end.Clean e = refl
-  by-end (end.Fault q) e = cc
-
-  ends-clean : walk s .ends ≡ end.Clean
-  unfolding questions book inOrder
-  ends-clean =
-      let later = none-of-both (lent p (length s) (length scratch) (length output)) _ (opened .given) .1 in
-      by-end (walk s .ends) (first-yes _ _ (none-of-both (book s) _ later .0))
+  clean-walk : walk s .ends ≡ end.Clean
+  clean-walk = ends-clean s (opened .alone)
 
   is-plain : Plain s p output′ told
-  is-plain = plain-left s p output output′ told ends-clean (opened .told) (opened .written)
+  is-plain = plain-left s p output output′ told clean-walk (opened .told) (opened .written)
 
   room : length s ≤ length output′
   room = rw (opened .written) (simp (length-append, length-plain) (omega arith))
@@ -303,7 +288,7 @@ module _ (s p scratch output : List ℕ) (told : Report) (scratch′ output′ :
 
   plain-directory : (place : ℕ) → directory (take (length s) output′) place ≡ directory s place
   plain-directory =
-      same-directory s (take (length s) output′) (length-take-le (length s) output′ room) ends-clean
+      same-directory s (take (length s) output′) (length-take-le (length s) output′ room) clean-walk
       (λ r o e h g. byte o (in-stream s r o e) ∙ is-plain .own r o e h g)
       (λ o h e. byte o h ∙ is-plain .zeroed o h e)
 

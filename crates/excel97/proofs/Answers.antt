@@ -2,24 +2,21 @@
 -- so the run is told by what those questions give, and by the check.
 -- Assumes nothing.
 use mathlib.Core.Path.{_≡_, refl, sym, ap, _∙_}
-use mathlib.Core.Bool.{Bool, true, false, _&&_}
+use mathlib.Core.Bool.{Bool, true, false}
 use mathlib.Core.List.{List, [], _∷_, _++_, append-assoc}
 use mathlib.Core.Option.{Option, none, some}
 use Prim.Native.Nat.{ℕ, _≤_}
-use native.Mathlib.Omega.{arith}
 use borrow.Author.Tests.{le-leb, leb-true}
-use lib.Dec.{eqb, leb}
+use lib.Dec.{leb}
 use lib.ListN.{length, drop}
 use Rattle.laws.specs.Choice.{pick}
 use Rattle.sensitive.specs.Utf8.{wellFormed, points, pointsFrom, charAt}
-use Rattle.binary_office.specs.declared.WalkEnd.{WalkEnd}
-use Rattle.binary_office.specs.declared.WalkEnd.the-variants as end
-use Rattle.binary_office.specs.Walk.{walk}
 use Rattle.file_params.specs.declared.Refusal.{Refusal}
 use Rattle.file_params.specs.declared.Refusal.the-variants.{WrongPassword}
 use Rattle.file_params.specs.Refusal.{number}
-use Rattle.file_params.specs.Questions.{Question, ask, asked, only, lent, inOrder, locked, book, lock, encryptionType, version, office97, cryptoApi, rc4, questions, filepassBody, structureOf, typeOf, isOffice97, isCryptoApi, clean}
-use Rattle.file_params.proofs.Laws.{asked-on, asked-stop, none-of-both, first-yes}
+use Rattle.file_params.specs.Questions.{Question, ask, asked, lent, ofStream, questions, filepassBody}
+use Rattle.file_params.proofs.Laws.{asked-on, asked-stop, from-either, none-of-both}
+use Rattle.file_params.proofs.Tables.{given-passes, stream-number}
 use Rattle.excel97.specs.declared.Report.{Report}
 use Rattle.excel97.specs.declared.Answer.{Answer}
 use Rattle.excel97.specs.declared.Answer.the-variants.{Opened, Refused}
@@ -27,9 +24,9 @@ use Rattle.excel97.specs.Open.{passes, plain, report, wiped, outcomeBy, 
 
 -- questions 1 to 26, as the empty password has them
 abbrev pub earlier : (stream scratch output : List ℕ) → List Question
-earlier stream scratch output = lent [] (length stream) (length scratch) (length output) ++ (book stream ++ lock (filepassBody stream))
+earlier stream scratch output = lent [] (length stream) (length scratch) (length output) ++ ofStream stream
 
-empty-fine : wellFormed [] ≡ true
+pub empty-fine : wellFormed [] ≡ true
 unfolding wellFormed points pointsFrom charAt pick
 empty-fine = refl
 
@@ -57,78 +54,22 @@ all-asked stream p scratch output t h e =
     rw (same-lent p (length stream) (length scratch) (length output) h e)
     (ap asked (simp append-assoc) ∙ behind (earlier stream scratch output) t)
 
--- a test of every refusal that a table can give
-module _ (f : Refusal → Bool) where
-  abbrev pub every : List Question → Bool
-  every [] = true
-  every (q ∷ qs) = f (q .no) && every qs
-
-  pub joined : (ps qs : List Question) → every ps ≡ true → every qs ≡ true → every (ps ++ qs) ≡ true
-  joined [] qs e g = g
-  joined (q ∷ ps) qs e g = go (f (q .no)) e (λ h. joined ps qs h g)
-    where
-      go : (t : Bool) → (t && every ps) ≡ true → (every ps ≡ true → every (ps ++ qs) ≡ true) → (t && every (ps ++ qs)) ≡ true
-      go true e h = h e
-      go false e h = e
-
-  where-asked : (t : Bool) (qs : List Question) → every qs ≡ true → every (only t qs) ≡ true
-  unfolding only pick
-  where-asked true qs e = e
-  where-asked false qs e = refl
-
-  -- the tables of a FILEPASS body, from its parts
-  pub of-lock : ((b : List ℕ) → every (encryptionType b) ≡ true) → ((s : List ℕ) → every (version s) ≡ true) → ((s : List ℕ) → every (office97 s) ≡ true)
-      → ((s : List ℕ) → every (cryptoApi s) ≡ true)
-      → (body : List ℕ) → every (lock body) ≡ true
-  unfolding lock rc4
-  of-lock t v o c body =
-      joined (encryptionType body) (only (eqb (typeOf body) 1) (rc4 (structureOf body))) (t body)
-      (where-asked (eqb (typeOf body) 1) (rc4 (structureOf body)) (by-version (structureOf body)))
-    where
-      by-version : (structure : List ℕ) → every (rc4 structure) ≡ true
-      by-version structure =
-          joined (version structure) (only (isOffice97 structure) (office97 structure) ++ only (isCryptoApi structure) (cryptoApi structure)) (v structure)
-          (joined (only (isOffice97 structure) (office97 structure)) (only (isCryptoApi structure) (cryptoApi structure))
-          (where-asked (isOffice97 structure) (office97 structure) (o structure))
-          (where-asked (isCryptoApi structure) (cryptoApi structure) (c structure)))
-
-  pub given-passes : (qs : List Question) (r : Refusal) → every qs ≡ true → asked qs ≡ some r → f r ≡ true
-  unfolding asked pick
-  given-passes [] r e g = cc
-  given-passes (q ∷ qs) r e g = go (q .yes) (f (q .no)) refl e g (given-passes qs r)
-    where
-      go : (t u : Bool) → f (q .no) ≡ u → (u && every qs) ≡ true → pick t (asked qs) (some (q .no)) ≡ some r → (every qs ≡ true → asked qs ≡ some r → f r ≡ true)
-          → f r ≡ true
-      go true true k e g h = h e g
-      go false true k e g h = let z : q .no ≡ r = cc in rw (← z) k
-      go t false k e g h = cc
-
--- numbers up to 26
-abbrev before27 : Refusal → Bool
-before27 r = leb (number r) 26
-
-earlier-before27 : (stream scratch output : List ℕ) → every before27 (earlier stream scratch output) ≡ true
-unfolding lent book inOrder locked encryptionType version office97 cryptoApi
-earlier-before27 stream scratch output =
-    joined before27 (lent [] (length stream) (length scratch) (length output)) (book stream ++ lock (filepassBody stream)) refl
-    (joined before27 (book stream) (lock (filepassBody stream)) refl
-    (of-lock before27 (λ b. refl) (λ s. refl) (λ s. refl) (λ s. refl) (filepassBody stream)))
-
+-- numbers up to 26, and from 6 on
 pub earlier-number : (stream scratch output : List ℕ) (r : Refusal) → asked (earlier stream scratch output) ≡ some r → number r ≤ 26
-earlier-number stream scratch output r e = leb-true (number r) 26 (given-passes before27 (earlier stream scratch output) r (earlier-before27 stream scratch output) e)
+unfolding lent
+earlier-number stream scratch output r e =
+    let asked-first = lent [] (length stream) (length scratch) (length output) in
+    from-either asked-first (ofStream stream) r (number r ≤ 26)
+    (λ g. leb-true (number r) 26 (given-passes (λ (q : Refusal). leb (number q) 26) asked-first r refl g))
+    (λ g. stream-number stream r g .1)
+    e
 
--- numbers from 6 on
-abbrev past5 : Refusal → Bool
-past5 r = leb 6 (number r)
-
-pub later-number : (stream : List ℕ) (t : Bool) (r : Refusal) → asked (book stream ++ (lock (filepassBody stream) ++ (ask t WrongPassword ∷ []))) ≡ some r → 6 ≤ number r
-unfolding book inOrder locked encryptionType version office97 cryptoApi
+pub later-number : (stream : List ℕ) (t : Bool) (r : Refusal) → asked (ofStream stream ++ (ask t WrongPassword ∷ [])) ≡ some r → 6 ≤ number r
 later-number stream t r e =
-    leb-true 6 (number r)
-    (given-passes past5 (book stream ++ (lock (filepassBody stream) ++ (ask t WrongPassword ∷ []))) r
-    (joined past5 (book stream) (lock (filepassBody stream) ++ (ask t WrongPassword ∷ [])) refl
-    (joined past5 (lock (filepassBody stream)) (ask t WrongPassword ∷ []) (of-lock past5 (λ b. refl) (λ s. refl) (λ s. refl) (λ s. refl) (filepassBody stream)) refl))
-    e)
+    from-either (ofStream stream) (ask t WrongPassword ∷ []) r (6 ≤ number r)
+    (λ g. stream-number stream r g .0)
+    (λ g. leb-true 6 (number r) (given-passes (λ (q : Refusal). leb 6 (number q)) (ask t WrongPassword ∷ []) r refl g))
+    e
 
 -- a run, by the refusal that the questions give
 pub record Ran (stream p scratch output : List ℕ) (d : Option Refusal) (a : Answer) (scratch₁ output₁ : List ℕ) : Type 0 where
@@ -186,13 +127,6 @@ pub none-earlier : (c : Option Refusal) (t : Bool) → decided c t ≡ none → 
 none-earlier none t e = refl
 none-earlier (some q) t e = e
 
--- a stream that is opened was walked to its end
-pub walk-clean : (stream scratch output : List ℕ) → asked (earlier stream scratch output) ≡ none → walk stream .ends ≡ end.Clean
-unfolding book inOrder
-walk-clean stream scratch output e =
-    let behind-lent = none-of-both (lent [] (length stream) (length scratch) (length output)) (book stream ++ lock (filepassBody stream)) e .1 in
-    by-end (walk stream .ends) (first-yes _ (drop 1 (book stream)) (none-of-both (book stream) (lock (filepassBody stream)) behind-lent .0))
-  where
-    by-end : (w : WalkEnd) → clean w ≡ true → w ≡ end.Clean
-    by-end end.Clean g = refl
-    by-end (end.Fault at) g = cc
+-- past the earlier questions, those of the stream alone are passed
+pub alone-passed : (stream scratch output : List ℕ) → asked (earlier stream scratch output) ≡ none → none ≡ asked (ofStream stream)
+alone-passed stream scratch output e = sym (none-of-both (lent [] (length stream) (length scratch) (length output)) (ofStream stream) e .1)

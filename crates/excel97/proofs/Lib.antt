@@ -1,5 +1,4 @@
 pub mod Answers
-pub mod Asked
 pub mod Blanked
 pub mod Keys
 pub mod PlainBytes

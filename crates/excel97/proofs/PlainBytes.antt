@@ -21,6 +21,7 @@ use Rattle.binary_office.specs.Walk.{BiffRecord, walkAt, walk, clearLen}
 use Rattle.binary_office.proofs.Along.{records-on, records-end, records-fault, along}
 use Rattle.binary_office.proofs.Walks.{record-within}
 use Rattle.file_params.specs.Questions.{filepass, filepassBody, structureOf, typeOf}
+use Rattle.survey.specs.Survey.{encipheredBytes, blockKeys}
 use Rattle.excel97.specs.declared.Lock.the-variants.{Xor}
 use Rattle.excel97.specs.declared.Report.{Report}
 use Rattle.excel97.specs.Open.{arrayOf, xorByte, rc4Byte, plainByte, recordAt, inRecord, blanked, plainAt, plain, xorReport, rc4Report, report}
@@ -109,13 +110,14 @@ module _ (s p : List ℕ) where
 
   -- a lock other than XOR has a type other than 0
   not-xor : (report s .lock ≡ Xor → ⊥) → eqb (typeOf (filepassBody s)) 0 ≡ false
-  unfolding report
-  not-xor f = go (eqb (typeOf (filepassBody s)) 0) refl
+  unfolding report pick
+  not-xor f = go (eqb (typeOf (filepassBody s)) 0) f
     where
-      go : (t : Bool) → eqb (typeOf (filepassBody s)) 0 ≡ t → t ≡ false
-      go true e = absurd (f (ap (λ (x : Report). x .lock)
-          (taken (xorReport (length (walk s .records))) (rc4Report (length (walk s .records)) (structureOf (filepassBody s))) e)))
-      go false e = refl
+      go : (t : Bool)
+          → (pick t xorReport (rc4Report (structureOf (filepassBody s))) (length (walk s .records)) (length s) (encipheredBytes (walk s .records)) (blockKeys (filepassBody s) (length s)) .lock ≡ Xor → ⊥)
+          → t ≡ false
+      go true f = absurd (f refl)
+      go false f = refl
 
   module _ (output output′ : List ℕ) (x : Report) (clean : walk s .ends ≡ end.Clean) (told : x ≡ report s) (written : output′ ≡ plain s p ++ drop (length s) output) where
     at-start : take (length s) output′ ≡ plain s p

@@ -26,7 +26,8 @@ use Rattle.file_params.specs.Questions.{filepass, le16}
 use Rattle.file_params.proofs.Fields.{field-value}
 use Rattle.excel97.specs.Open.{recordAt, blanked}
 use Rattle.excel97.specs.Demand3.{Bounds, boundsOf}
-use Rattle.excel97.proofs.Records.{filepass-here, filepass-on, located, clear-within, Reached, reached-none, reached-on, reached-fault, record-here}
+use Rattle.survey.proofs.Records.{filepass-here, filepass-on, located, clear-within}
+use Rattle.excel97.proofs.Records.{Reached, reached-none, reached-on, reached-fault, record-here}
 use Rattle.excel97.proofs.Blanked.{blank-before, blank-id, blank-length, blank-behind}
 
 -- the id that a header has in the plain stream, by its offset and its id in the stream
@@ -45,7 +46,7 @@ module _ (s : List ℕ) where
       let there = record-there s at id len e in (field-value s at id (there .id-there), field-value s (at + 2) len (there .len-there))
 
   -- the first FILEPASS is the first from an offset on, or no offset from there on is zeroed
-  data Sits (f : Option BiffRecord) (at : ℕ) : Type 0 where
+  pub data Sits (f : Option BiffRecord) (at : ℕ) : Type 0 where
     ahead : f ≡ filepass (walkAt s at .records) → Sits f at
     passed : ((o : ℕ) → at ≤ o → blanked f o ≡ false) → Sits f at
 
@@ -53,7 +54,7 @@ module _ (s : List ℕ) where
     abbrev here : BiffRecord
     here = record { at = at; id = id; len = len }
 
-    sits-on : Sits f at → Sits f (at + 4 + len)
+    pub sits-on : Sits f at → Sits f (at + 4 + len)
     sits-on (ahead g) =
         same-or id 0x002F
         (λ q. passed (λ o h. rw (g ∙ filepass-here s at id len e q) (blank-behind here o h)))
@@ -73,7 +74,7 @@ module _ (s : List ℕ) where
     length-kept (passed g) o h k = g o (omega arith)
 
     -- nor is any byte of a record other than FILEPASS
-    record-kept : (id ≡ 0x002F → ⊥) → Sits f at → (o : ℕ) → at ≤ o → o < at + 4 + len → blanked f o ≡ false
+    pub record-kept : (id ≡ 0x002F → ⊥) → Sits f at → (o : ℕ) → at ≤ o → o < at + 4 + len → blanked f o ≡ false
     record-kept n (ahead g) o h k = rw (g ∙ filepass-on s at id len e n) (before-next (filepass (walkAt s (at + 4 + len) .records)) refl o k)
     record-kept n (passed g) o h k = g o h
 

@@ -17,7 +17,8 @@ use Rattle.xor_obfuscation.specs.Xor.{deciphered, Deciphers}
 use Rattle.block_keys.proofs.Parts.{written-by, lent-part, part-size}
 use Rattle.excel97.specs.Open.{recordAt, inRecord, xorByte}
 use Rattle.excel97.specs.Steps.{throughAt}
-use Rattle.excel97.proofs.Records.{Reached, record-here, clear-within}
+use Rattle.survey.proofs.Records.{clear-within}
+use Rattle.excel97.proofs.Records.{Reached, record-here}
 
 -- a byte of a record: its own in header and clear part, else deciphered
 module _ (f : BiffRecord → ℕ → ℕ → ℕ) (r : BiffRecord) (o x : ℕ) where

@@ -14,12 +14,13 @@ use Rattle.file_params.specs.declared.Refusal.{Refusal}
 use Rattle.file_params.specs.declared.Refusal.the-variants.{WrongPassword}
 use Rattle.file_params.specs.Refusal.{number}
 use Rattle.file_params.specs.Questions.{asked, filepassBody}
+use Rattle.survey.proofs.Told.{ends-clean}
 use Rattle.excel97.specs.declared.Report.{Report}
 use Rattle.excel97.specs.declared.Answer.{Answer}
 use Rattle.excel97.specs.declared.Answer.the-variants.{Opened, Refused}
 use Rattle.excel97.specs.Open.{passes, plain, report, outcomeBy, Opens}
 use Rattle.excel97.specs.Demand3.{Plain, Decided, OfAnyTwoRuns}
-use Rattle.excel97.proofs.Answers.{earlier, Opening, scratchBy, earlier-number, decided, Ran, ran, refusing, opening, scratch-by, not-last, none-earlier, walk-clean}
+use Rattle.excel97.proofs.Answers.{earlier, Opening, scratchBy, earlier-number, decided, Ran, ran, refusing, opening, scratch-by, not-last, none-earlier, alone-passed}
 use Rattle.excel97.proofs.PlainBytes.{plain-left, length-plain}
 
 -- what the check decides, where no earlier question refuses
@@ -63,7 +64,7 @@ alone stream p scratch output a scratch₁ output₁ short fine run =
       rest = λ x e. rw (opens x e .written) (drop-at (plain stream p) (drop (length stream) output) (length stream) (length-plain stream p));
       plain-is = λ x e.
           let o = opens x e in
-          plain-left stream p output output₁ x (walk-clean stream scratch output (none-earlier c t (o .given))) (o .told) (o .written);
+          plain-left stream p output output₁ x (ends-clean stream (alone-passed stream scratch output (none-earlier c t (o .given)))) (o .told) (o .written);
     }
   where
     c : Option Refusal

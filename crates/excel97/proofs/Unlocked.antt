@@ -15,24 +15,26 @@ use lib.Seq.{ext-getD, getD-append-add, getD-drop, take-all}
 use borrow.Author.Tests.{eq-eqb, le-leb}
 use Rattle.laws.specs.Choice.{pick}
 use Rattle.laws.specs.Offsets.{tabulate, mapAt}
-use Rattle.laws.proofs.Choice.{taken, left, stop, skip, either}
+use Rattle.laws.proofs.Choice.{taken, left, stop, skip}
 use Rattle.laws.proofs.Offsets.{length-tabulate, getD-tabulate, length-mapAt, getD-mapAt}
 use Rattle.laws.proofs.Written.{Written, written-all}
 use Rattle.sensitive.specs.Utf8.{wellFormed}
 use Rattle.sensitive.specs.Ansi.{ansi}
 use Rattle.password_digest.specs.Digest.{fits}
 use Rattle.binary_office.specs.Walk.{BiffRecord, walk}
-use Rattle.file_params.specs.Questions.{filepass, filepassBody, bodyOf, typeOf, structureOf}
-use Rattle.block_keys.specs.BlockKeys.{scheduleOf, blockKey, keystreamAt, decipheredAt, verified, Decrypts}
+use Rattle.file_params.specs.Questions.{filepass, filepassBody, typeOf, structureOf}
+use Rattle.block_keys.specs.BlockKeys.{scheduleOf, blockKey, keystreamAt, decipheredAt, startedBlocks, verified, Decrypts}
 use Rattle.block_keys.specs.Lock.{lockOf, part, saltOf, Schedules}
 use Rattle.block_keys.specs.declared.Kind.{Kind}
 use Rattle.block_keys.specs.declared.Kind.the-variants.{Office97, CryptoApi}
 use Rattle.block_keys.specs.declared.Rc4Lock.{Rc4Lock}
 use Rattle.block_keys.specs.declared.Schedule.{Schedule}
 use Rattle.block_keys.specs.declared.Scheduled.{Scheduled}
-use Rattle.excel97.specs.declared.Found.the-variants as found
+use Rattle.survey.specs.declared.Found.the-variants as found
+use Rattle.survey.specs.Survey.{blockKeys}
+use Rattle.survey.specs.Steps.{foundOf}
 use Rattle.excel97.specs.Open.{xorMatches, rc4Matches, arrayOf, xorByte, rc4Byte, keystream, plainByte, recordAt, inRecord, blanked, plainAt, plain, passes}
-use Rattle.excel97.specs.Steps.{foundOf, throughAt, Blanks, Unlocks}
+use Rattle.excel97.specs.Steps.{throughAt, Blanks, Unlocks}
 use Rattle.excel97.proofs.Blanked.{blank-behind}
 
 -- two ways of deciphering that agree on a byte
@@ -49,8 +51,13 @@ listed f s =
     ∙ sym (getD-mapAt f 0 s i 0 k ∙ ap (λ (n : ℕ). f n (getD s i 0)) (zero-add i)))
 
 -- under RC4: the whole stream deciphered, then headers and clear parts put back
-module _ (s d d₁ d₂ : List ℕ) (keyOf : ℕ → List ℕ) (room : length s ≤ length d) (a : Decrypts 1024 keyOf s d d₁)
+module _ (s d d₁ d₂ : List ℕ) (keyOf : ℕ → List ℕ) (keys : ℕ) (room : length s ≤ length d) (a : Decrypts 1024 keyOf s d keys d₁)
     (b : Written (throughAt s (λ (r : BiffRecord) (o x : ℕ). getD d₁ o 0)) 0 (length s) d₁ d₂) where
+  pub all-keys : keys ≡ startedBlocks 1024 (length s)
+  all-keys =
+      let n : min (length s) (length d) ≡ length s = omega arith in
+      a .counted ∙ left 0 (startedBlocks 1024 (min (length s) (length d))) refl ∙ ap (startedBlocks 1024) n
+
   first : d₁ ≡ tabulate (decipheredAt 1024 keyOf s) (length s) ++ drop (length s) d
   first =
       let n : min (length s) (length d) ≡ length s = omega arith in
@@ -102,14 +109,6 @@ module _ (s : List ℕ) (at len : ℕ) (e : foundOf (filepass (walk s .records))
   same-blanked : (o : ℕ) → blanked (filepass (walk s .records)) o ≡ blanked (some place) o
   same-blanked o = by-blanked (filepass (walk s .records)) o e
 
-  by-body : (r : Option BiffRecord) → foundOf r ≡ found.At at len → bodyOf s r ≡ take len (drop (at + 4) s)
-  by-body none g = cc
-  by-body (some r) g = let x : r .at ≡ at = cc in let y : r .len ≡ len = cc in rw (x, y)
-
-  pub body-found : filepassBody s ≡ take len (drop (at + 4) s)
-  unfolding filepassBody
-  body-found = by-body (filepass (walk s .records)) e
-
   -- the plain stream, from the stream that went through the lock and the FILEPASS that was blanked
   module _ (p d d₁ d₂ : List ℕ) (f : BiffRecord → ℕ → ℕ → ℕ) (inside : at + 4 + len ≤ length s) (room : length s ≤ length d)
       (w : Written (throughAt s f) 0 (length s) d d₁)
@@ -140,13 +139,9 @@ module _ (s : List ℕ) (at len : ℕ) (e : foundOf (filepass (walk s .records))
         never : (o : ℕ) → o < 0 → ⊥
         never o h = omega arith
 
-  -- the body and the structure, as the code cuts them out
-  pub body-slice : take (at + 4 + len - (at + 4)) (drop (at + 4) s) ≡ filepassBody s
-  body-slice = let e : at + 4 + len - (at + 4) ≡ len = omega arith in rw e (sym body-found)
-
-  module _ (b : List ℕ) (eb : b ≡ filepassBody s) where
-    pub structure-slice : take (length b - 2) (drop 2 b) ≡ structureOf (filepassBody s)
-    structure-slice = take-all (length b - 2) (drop 2 b) (le-of-eq (length-drop 2 b)) ∙ ap (drop 2) eb
+-- the structure, as the code cuts it out of the body
+pub structure-slice : (s b : List ℕ) → b ≡ filepassBody s → take (length b - 2) (drop 2 b) ≡ structureOf (filepassBody s)
+structure-slice s b eb = take-all (length b - 2) (drop 2 b) (le-of-eq (length-drop 2 b)) ∙ ap (drop 2) eb
 
 -- a password that fails leaves the output, and one that passes opens it
 module _ (s p d : List ℕ) where
@@ -179,6 +174,11 @@ module _ (body p : List ℕ) (z : typeOf body ≡ 1) where
       → (r : BiffRecord) (o x : ℕ) → bitXor x (keystreamAt 1024 (blockKey schedule) o) ≡ plainByte body p r o x
   unfolding plainByte keystream
   rc4-bytes schedule e r o x = rw e (skip (xorByte (arrayOf (ansi p)) r o x) not-xor refl)
+
+  -- one key for the check, and those of the blocks
+  pub keys-in-all : (n : ℕ) → 1 + startedBlocks 1024 n ≡ blockKeys body n
+  unfolding blockKeys
+  keys-in-all n = skip 0 not-xor refl
 
 -- a schedule by its fields
 fields : (q : Schedule) (k : Kind) (bits : ℕ) (digest : List ℕ) → q .kind ≡ k → q .«key_bits» ≡ bits → q .digest ≡ digest

@@ -14,10 +14,9 @@ use Rattle.binary_office.specs.Look.{look}
 use Rattle.file_params.specs.declared.Refusal.{Refusal}
 use Rattle.file_params.specs.Refusal.{number, first, second}
 use Rattle.file_params.specs.declared.Refusal.the-variants.{BiffRecordUnreadable, WorkbookBofMissing, NotEncrypted, FilepassOutOfOrder, FilepassTruncated, FilepassEncryptionType, EncryptionVersionInfoTruncated, UnsupportedEncryptionVersion, WrongPassword}
-use Rattle.excel97.specs.declared.Lock.the-variants.{Xor}
 use Rattle.excel97.specs.declared.Answer.{Answer}
 use Rattle.excel97.specs.declared.Answer.the-variants.{Opened, Refused}
-use Rattle.excel97.specs.Open.{Outcome, wiped, outcome}
+use Rattle.excel97.specs.Open.{Outcome, wiped, xorReport, outcome}
 
 -- a stream and a password; Look's verdict; Open's answer with the scratch and the output that it leaves, and the answer in the document's numbers
 pub record ShortBook : Type 0 where
@@ -122,7 +121,7 @@ cases =
       password = passwordA;
       verdict = lockedXor;
       left = record {
-        answer = Opened (record { records = 3; lock = Xor; «key_bits» = 0; «summary_sealed» = false });
+        answer = Opened (xorReport 3 20 2 0);
         scratch = wiped lentScratch;
         output = 0x09 ∷ 0x08 ∷ 0x00 ∷ 0x00 ∷ 0x00 ∷ 0x00 ∷ 0x06 ∷ 0x00 ∷ 0x00 ∷ 0x00 ∷ 0x00 ∷ 0x00 ∷ 0x00 ∷ 0x00 ∷ 0x42 ∷ 0x00 ∷ 0x02 ∷ 0x00 ∷ 0xBE ∷ 0x19 ∷ 0xAA ∷ [];
       };

@@ -21,6 +21,7 @@ use Rattle.block_keys.specs.declared.Kind.{Kind}
 use Rattle.block_keys.specs.declared.Kind.the-variants as kind
 use Rattle.block_keys.specs.BlockKeys.{scheduleOf, blockKey, keystreamAt, verified}
 use Rattle.block_keys.specs.Lock.{lockOf, part, saltOf}
+use Rattle.survey.specs.Survey.{encipheredBytes, blockKeys}
 use Rattle.excel97.specs.declared.Lock.{Lock}
 use Rattle.excel97.specs.declared.Lock.the-variants.{Xor, Office97, CryptoApi}
 use Rattle.excel97.specs.declared.Report.{Report}
@@ -93,24 +94,43 @@ plainAt stream password offset x =
 unfoldable pub plain : (stream password : List ℕ) → List ℕ
 plain stream password = mapAt (plainAt stream password) 0 stream
 
--- the report: the record count, the lock, its key bits (0 for XOR, 40 for 1.1), whether the summary is sealed
+-- the report: the record count, the lock, its key bits (0 for XOR, 40 for 1.1), whether the summary is sealed; and behind them what opening takes (document
+-- 02, T-04: "Open on success reports the same four"), as the stream alone tells it
 abbrev pub byKind : Kind → Lock
 byKind kind.Office97 = Office97
 byKind kind.CryptoApi = CryptoApi
 
-abbrev pub xorReport : (records : ℕ) → Report
-xorReport records = record { records = records; lock = Xor; «key_bits» = 0; «summary_sealed» = false }
+abbrev pub xorReport : (records bytes enciphered keys : ℕ) → Report
+xorReport records bytes enciphered keys =
+    record {
+      records = records;
+      lock = Xor;
+      «key_bits» = 0;
+      «summary_sealed» = false;
+      «output_bytes» = bytes;
+      «enciphered_body_bytes» = enciphered;
+      «block_keys» = keys;
+    }
 
-abbrev pub rc4Report : (records : ℕ) → (structure : List ℕ) → Report
-rc4Report records structure =
+abbrev pub rc4Report : (structure : List ℕ) → (records bytes enciphered keys : ℕ) → Report
+rc4Report structure records bytes enciphered keys =
     let l = lockOf structure in
-    record { records = records; lock = byKind (l .kind); «key_bits» = l .«key_bits»; «summary_sealed» = l .«summary_sealed» }
+    record {
+      records = records;
+      lock = byKind (l .kind);
+      «key_bits» = l .«key_bits»;
+      «summary_sealed» = l .«summary_sealed»;
+      «output_bytes» = bytes;
+      «enciphered_body_bytes» = enciphered;
+      «block_keys» = keys;
+    }
 
 unfoldable pub report : (stream : List ℕ) → Report
 report stream =
     let body = filepassBody stream in
-    let n = length (walk stream .records) in
-    pick (eqb (typeOf body) 0) (xorReport n) (rc4Report n (structureOf body))
+    let records = walk stream .records in
+    let of = pick (eqb (typeOf body) 0) xorReport (rc4Report (structureOf body)) in
+    of (length records) (length stream) (encipheredBytes records) (blockKeys body (length stream))
 
 -- the outcome: the answer, and scratch and output at exit
 pub record Outcome : Type 0 where

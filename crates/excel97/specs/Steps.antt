@@ -4,55 +4,18 @@ use mathlib.Core.Path.{_≡_}
 use Prim.Native.Nat.{ℕ, _+_, _≤_}
 use mathlib.Core.Bool.{Bool, true, false}
 use mathlib.Core.List.{List, [], _∷_, _++_}
-use mathlib.Core.Option.{Option, none, some}
-use lib.Dec.{eqb}
+use mathlib.Core.Option.{Option, some}
 use lib.ListN.{length, getD, drop}
 use Rattle.laws.specs.Choice.{pick}
 use Rattle.binary_office.specs.declared.WalkEnd.the-variants as end
 use Rattle.binary_office.specs.Walk.{BiffRecord, walk}
 use Rattle.file_params.specs.declared.Refusal.{Refusal}
 use Rattle.file_params.specs.declared.Refusal.the-variants.{WrongPassword}
-use Rattle.file_params.specs.Questions.{ask, asked, book, lock, filepass, typeOf, structureOf, filepassBody}
-use Rattle.block_keys.specs.Lock.{lockOf}
+use Rattle.file_params.specs.Questions.{ask, asked, ofStream, filepass, filepassBody}
+use Rattle.survey.specs.declared.Found.the-variants as found
+use Rattle.survey.specs.Steps.{foundOf}
 use Rattle.excel97.specs.declared.Answer.{Answer}
-use Rattle.excel97.specs.declared.Found.{Found}
-use Rattle.excel97.specs.declared.Found.the-variants as found
-use Rattle.excel97.specs.declared.Other.{Other}
-use Rattle.excel97.specs.declared.Other.the-variants as other
-use Rattle.excel97.specs.declared.Book.{Book}
-use Rattle.excel97.specs.declared.Surveyed.{Surveyed}
-use Rattle.excel97.specs.declared.Surveyed.the-variants as surveyed
-use Rattle.excel97.specs.declared.Scheme.{Scheme}
-use Rattle.excel97.specs.declared.Scheme.the-variants as scheme
 use Rattle.excel97.specs.Open.{passes, plain, recordAt, inRecord, blanked, outcomeBy}
-
-abbrev pub foundOf : Option BiffRecord → Found
-foundOf none = found.Nothing
-foundOf (some r) = found.At (r .at) (r .len)
-
-abbrev pub otherOf : Option ℕ → Other
-otherOf none = other.InOrder
-otherOf (some id) = other.Id id
-
--- the place of the first FILEPASS, with the record count
-abbrev pub bookBy : (records : ℕ) → Option BiffRecord → Book
-bookBy records none = record { records = records; at = 0; len = 0 }
-bookBy records (some r) = record { records = records; at = r .at; len = r .len }
-
-unfoldable pub bookOf : List ℕ → Book
-bookOf stream = bookBy (length (walk stream .records)) (filepass (walk stream .records))
-
-abbrev pub surveyedOf : Book → Option Refusal → Surveyed
-surveyedOf b none = surveyed.Locked b
-surveyedOf b (some r) = surveyed.Refused r
-
--- the lock of a FILEPASS body
-unfoldable pub schemeBy : (body : List ℕ) → Scheme
-schemeBy body = pick (eqb (typeOf body) 0) scheme.Xor (scheme.Rc4 (lockOf (structureOf body)))
-
-abbrev pub schemeOf : Scheme → Option Refusal → Scheme
-schemeOf s none = s
-schemeOf s (some r) = scheme.Refused r
 
 -- a stream's byte at an offset, where the enciphered ones are put through a function
 abbrev pub throughAt : (stream : List ℕ) → (BiffRecord → ℕ → ℕ → ℕ) → ℕ → ℕ
@@ -78,7 +41,7 @@ pub record Ready (stream output : List ℕ) (at len : ℕ) : Type 0 where
 
 -- questions 6 to 27
 abbrev pub laterRefusal : (stream password : List ℕ) → Option Refusal
-laterRefusal stream password = asked (book stream ++ (lock (filepassBody stream) ++ (ask (passes (filepassBody stream) password) WrongPassword ∷ [])))
+laterRefusal stream password = asked (ofStream stream ++ (ask (passes (filepassBody stream) password) WrongPassword ∷ []))
 
 -- what is settled once questions 1 to 5 are passed; of the scratch, only the first 64 bytes change
 pub record Settles (stream password scratch output : List ℕ) (answer : Answer) (scratch′ output′ : List ℕ) : Type 0 where

@@ -15,13 +15,14 @@ ghost use Rattle.sensitive.specs.Ansi.{ansi};
 ghost use Rattle.binary_office.specs.declared.WalkEnd.the-variants.{Clean};
 ghost use Rattle.binary_office.specs.Walk.{BiffRecord, walk};
 ghost use Rattle.file_params.specs.declared.Refusal.the-variants.{WrongPassword};
-ghost use Rattle.file_params.specs.Questions.{asked, lent, locked, book, lock, filepass, otherId, le16, filepassBody, typeOf, structureOf};
+ghost use Rattle.file_params.specs.Questions.{asked, lent, ofStream, le16, filepassBody, typeOf, structureOf};
 ghost use Rattle.survey.specs.Checked.{checkedOf};
-ghost use Rattle.block_keys.specs.BlockKeys.{blockKey, keystreamAt};
+ghost use Rattle.survey.specs.Survey.{blockKeys, bookOf};
+ghost use Rattle.block_keys.specs.BlockKeys.{blockKey, keystreamAt, startedBlocks};
 ghost use Rattle.block_keys.specs.Lock.{lockOf};
 ghost use Rattle.excel97.specs.declared.Answer.the-variants.{Opened, Refused};
 ghost use Rattle.excel97.specs.Open.{xorMatches, arrayOf, xorByte, inRecord, byKind, Opens};
-ghost use Rattle.excel97.specs.Steps.{throughAt, Blanks, Unlocks, Ready, Settles, foundOf, otherOf, bookBy, bookOf, surveyedOf, schemeBy, schemeOf};
+ghost use Rattle.excel97.specs.Steps.{throughAt, Blanks, Unlocks, Ready, Settles};
 
 // The lock of a workbook.
 pub enum Lock {
@@ -36,43 +37,14 @@ pub struct Report {
     pub lock: Lock,
     pub key_bits: u32,
     pub summary_sealed: bool,
+    pub output_bytes: usize,
+    pub enciphered_body_bytes: usize,
+    pub block_keys: usize,
 }
 
 // What came of opening a stream.
 pub enum Answer {
     Opened(Report),
-    Refused(file_params::Refusal),
-}
-
-// Where the first FILEPASS is: the offset of its header, and the length of its body.
-enum Found {
-    At(usize, u16),
-    Nothing,
-}
-
-// The first id before FILEPASS that is not one of the seven.
-enum Other {
-    Id(u16),
-    InOrder,
-}
-
-// A stream whose records are in order: how many, and where the first FILEPASS is.
-struct Book {
-    records: usize,
-    at: usize,
-    len: u16,
-}
-
-// What came of walking a stream.
-enum Surveyed {
-    Locked(Book),
-    Refused(file_params::Refusal),
-}
-
-// What came of reading a FILEPASS body.
-enum Scheme {
-    Xor,
-    Rc4(block_keys::Rc4Lock),
     Refused(file_params::Refusal),
 }
 
@@ -98,47 +70,6 @@ fn check_lent(password: &[u8], stream: usize, scratch: usize, output: usize) -> 
     survey::Checked::Fine
 }
 
-// Finds the first FILEPASS.
-fn find_filepass(stream: &[u8]) -> Found
-    ensures { λ r. ⌜ r ≡ foundOf (filepass (walk (now (stream .entry)) .records)) ⌝ }
-{
-    let mut at: usize = 0;
-    loop {
-        match binary_office::step_at(stream, at) {
-            binary_office::Step::Record(id, len) => {
-                if id == 0x002F {
-                    return Found::At(at, len);
-                }
-                at = at + 4 + (len as usize);
-            }
-            binary_office::Step::Fault(_) => return Found::Nothing,
-            binary_office::Step::End => return Found::Nothing,
-        }
-    }
-}
-
-// Finds the first id before FILEPASS that is not one of the seven.
-fn find_other(stream: &[u8]) -> Other
-    ensures { λ r. ⌜ r ≡ otherOf (otherId (walk (now (stream .entry)) .records)) ⌝ }
-{
-    let mut at: usize = 0;
-    loop {
-        match binary_office::step_at(stream, at) {
-            binary_office::Step::Record(id, len) => {
-                if id == 0x002F {
-                    return Other::InOrder;
-                }
-                if !binary_office::never_encrypted(id) {
-                    return Other::Id(id);
-                }
-                at = at + 4 + (len as usize);
-            }
-            binary_office::Step::Fault(_) => return Other::InOrder,
-            binary_office::Step::End => return Other::InOrder,
-        }
-    }
-}
-
 // Copies the bytes of src from an offset up to another to the same places of dst.
 fn copy(src: &[u8], from: usize, to: usize, dst: &mut [u8])
     requires { ⌜ (from ≤ to) × (to ≤ length (now src)) × (to ≤ length (now dst)) ⌝ }
@@ -160,54 +91,6 @@ fn zero(dst: &mut [u8], from: usize, to: usize)
     while i < to {
         dst[i] = 0;
         i += 1;
-    }
-}
-
-// Asks questions 8 and 9 of a stream of so many records.
-fn check_locked(stream: &[u8], records: usize) -> Surveyed
-    ensures { λ r. ⌜ r ≡ surveyedOf (bookBy records (filepass (walk (now (stream .entry)) .records))) (asked (locked (walk (now (stream .entry)) .records))) ⌝ }
-{
-    let Found::At(at, len) = find_filepass(stream) else {
-        return Surveyed::Refused(file_params::Refusal::NotEncrypted);
-    };
-    match find_other(stream) {
-        Other::Id(id) => Surveyed::Refused(file_params::Refusal::FilepassOutOfOrder(id)),
-        Other::InOrder => Surveyed::Locked(Book { records, at, len }),
-    }
-}
-
-// Asks questions 6 to 9: the record count and the place of the first FILEPASS, or the first refusal.
-fn check_book(stream: &[u8]) -> Surveyed
-    ensures { λ r. ⌜ r ≡ surveyedOf (bookOf (now (stream .entry))) (asked (book (now (stream .entry)))) ⌝ }
-{
-    let walked = binary_office::walk(stream);
-    let end = walked.end;
-    match survey::check_records(stream, end) {
-        survey::Checked::Refused(refusal) => Surveyed::Refused(refusal),
-        survey::Checked::Fine => check_locked(stream, walked.records),
-    }
-}
-
-// Asks questions 10 to 26: the lock of a FILEPASS body, or the first refusal.
-fn find_lock(body: &[u8]) -> Scheme
-    ensures { λ r. ⌜ r ≡ schemeOf (schemeBy (now (body .entry))) (asked (lock (now (body .entry)))) ⌝ }
-{
-    let have = body.len();
-    let binary_office::Field16::Value(kind) = binary_office::le16(body, 0) else {
-        return Scheme::Refused(file_params::Refusal::FilepassTruncated(have, 2));
-    };
-    if kind == 0 {
-        if have < 6 {
-            return Scheme::Refused(file_params::Refusal::FilepassTruncated(have - 2, 4));
-        }
-        return Scheme::Xor;
-    }
-    if 1 < kind {
-        return Scheme::Refused(file_params::Refusal::FilepassEncryptionType(kind));
-    }
-    match block_keys::scheme_of(&body[2..]) {
-        block_keys::Scheme::Refused(refusal) => Scheme::Refused(refusal),
-        block_keys::Scheme::Locked(rc4_lock) => Scheme::Rc4(rc4_lock),
     }
 }
 
@@ -328,13 +211,21 @@ fn unlock_xor(stream: &[u8], at: usize, len: u16, password: &[u8], output: &mut 
     true
 }
 
-// Deciphers a stream under RC4: every byte, and then headers and clear parts are put back.
-fn unrc4(stream: &[u8], schedule: block_keys::Schedule, output: &mut [u8])
+// Deciphers a stream under RC4: every byte, and then headers and clear parts are put back. Tells how many block keys
+// were derived.
+fn unrc4(stream: &[u8], schedule: block_keys::Schedule, output: &mut [u8]) -> usize
     requires { ⌜ (walk (now stream) .ends ≡ Clean) × (length (now stream) ≤ length (now output)) ⌝ }
-    ensures { λ _. ⌜ Written (throughAt (now (stream .entry)) (λ (r : BiffRecord) (o x : ℕ). bitXor x (keystreamAt 1024 (blockKey schedule) o))) 0 (length (now (stream .entry))) (now (output .entry)) (now (output .exit)) ⌝ }
+    ensures { λ r. ⌜ (r ≡ startedBlocks 1024 (length (now (stream .entry)))) × Written (throughAt (now (stream .entry)) (λ (r : BiffRecord) (o x : ℕ). bitXor x (keystreamAt 1024 (blockKey schedule) o))) 0 (length (now (stream .entry))) (now (output .entry)) (now (output .exit)) ⌝ }
 {
-    block_keys::decrypt_in_blocks(schedule, 1024, stream, output);
+    let keys = block_keys::decrypt_in_blocks(schedule, 1024, stream, output);
     restore(stream, output);
+    keys
+}
+
+// A password that was tried on an RC4 lock: whether it passes, and how many block keys were derived in all.
+struct TriedRc4 {
+    ok: bool,
+    block_keys: usize,
 }
 
 // Tries a password on an RC4 lock, and opens the stream into the output where it passes.
@@ -346,9 +237,9 @@ fn unlock_rc4(
     password: &[u8],
     scratch: &mut [u8],
     output: &mut [u8],
-) -> bool
+) -> TriedRc4
     requires { ⌜ Ready (now stream) (now output) at len × (typeOf (filepassBody (now stream)) ≡ 1) × (2 ≤ length (filepassBody (now stream))) × (lock ≡ lockOf (structureOf (filepassBody (now stream)))) × (wellFormed (now password) ≡ true) × (64 ≤ length (now scratch)) ⌝ }
-    ensures { λ r. ⌜ Unlocks (now (stream .entry)) (now (password .entry)) (now (output .entry)) r (now (output .exit)) × (now (scratch .exit) ≡ replicate 64 0 ++ drop 64 (now (scratch .entry))) ⌝ }
+    ensures { λ r. ⌜ Unlocks (now (stream .entry)) (now (password .entry)) (now (output .entry)) (r .ok) (now (output .exit)) × (now (scratch .exit) ≡ replicate 64 0 ++ drop 64 (now (scratch .entry))) × (r .«block_keys» ≡ pick (r .ok) (blockKeys (filepassBody (now (stream .entry))) (length (now (stream .entry)))) 1) ⌝ }
 {
     let start = at + 4;
     let end = start + (len as usize);
@@ -356,15 +247,24 @@ fn unlock_rc4(
     let structure = &body[2..];
     let scheduled = block_keys::schedule_of(structure, lock, password, scratch);
     if !scheduled.ok {
-        return false;
+        return TriedRc4 {
+            ok: false,
+            block_keys: 0,
+        };
     }
     let schedule = scheduled.schedule;
     if !block_keys::verify(structure, lock, schedule) {
-        return false;
+        return TriedRc4 {
+            ok: false,
+            block_keys: 1,
+        };
     }
-    unrc4(stream, schedule, output);
+    let keys = unrc4(stream, schedule, output);
     blank(output, at, len);
-    true
+    TriedRc4 {
+        ok: true,
+        block_keys: 1 + keys,
+    }
 }
 
 // The answer of a password that was tried.
@@ -388,56 +288,66 @@ fn lock_of(kind: block_keys::Kind) -> Lock
     }
 }
 
-// Asks questions 10 to 27 of a stream whose records are in order, and opens it where they are passed.
-fn open_book(
+// Tries a password on a stream that was surveyed, and opens it where the password passes.
+fn open_locked(
     stream: &[u8],
-    found: Book,
+    surveyed: survey::Book,
     password: &[u8],
     scratch: &mut [u8],
     output: &mut [u8],
 ) -> Answer
-    requires { ⌜ (none ≡ asked (book (now stream))) × (found ≡ bookOf (now stream)) × (wellFormed (now password) ≡ true) × (2064 ≤ length (now scratch)) × (length (now stream) ≤ length (now output)) ⌝ }
+    requires { ⌜ (none ≡ asked (ofStream (now stream))) × (surveyed ≡ bookOf (now stream)) × (wellFormed (now password) ≡ true) × (2064 ≤ length (now scratch)) × (length (now stream) ≤ length (now output)) ⌝ }
     ensures { λ r. ⌜ Settles (now (stream .entry)) (now (password .entry)) (now (scratch .entry)) (now (output .entry)) r (now (scratch .exit)) (now (output .exit)) ⌝ }
 {
-    let at = found.at;
-    let len = found.len;
-    let start = at + 4;
-    let end = start + (len as usize);
-    match find_lock(&stream[start..end]) {
-        Scheme::Refused(refusal) => Answer::Refused(refusal),
-        Scheme::Xor => {
+    let at = surveyed.at;
+    let len = surveyed.len;
+    let scheme = surveyed.scheme;
+    match scheme {
+        survey::Scheme::Xor => {
             let ok = unlock_xor(stream, at, len, password, output);
             let report = Report {
-                records: found.records,
+                records: surveyed.records,
                 lock: Lock::Xor,
                 key_bits: 0,
                 summary_sealed: false,
+                output_bytes: stream.len(),
+                enciphered_body_bytes: surveyed.enciphered,
+                block_keys: 0,
             };
             answer_of(ok, report)
         }
-        Scheme::Rc4(rc4_lock) => {
-            let ok = unlock_rc4(stream, at, len, rc4_lock, password, scratch, output);
+        survey::Scheme::Rc4(rc4_lock) => {
+            let tried = unlock_rc4(stream, at, len, rc4_lock, password, scratch, output);
             let kind = rc4_lock.kind;
             let lock = lock_of(kind);
             let report = Report {
-                records: found.records,
+                records: surveyed.records,
                 lock,
                 key_bits: rc4_lock.key_bits,
                 summary_sealed: rc4_lock.summary_sealed,
+                output_bytes: stream.len(),
+                enciphered_body_bytes: surveyed.enciphered,
+                block_keys: tried.block_keys,
             };
-            answer_of(ok, report)
+            answer_of(tried.ok, report)
         }
     }
 }
 
 // Asks questions 6 to 27, and opens the stream where they are passed.
 fn open_stream(stream: &[u8], password: &[u8], scratch: &mut [u8], output: &mut [u8]) -> Answer
-    requires { ⌜ (wellFormed (now password) ≡ true) × (2064 ≤ length (now scratch)) × (length (now stream) ≤ length (now output)) ⌝ }
+    requires { ⌜ (length (now stream) ≤ 1073741824) × (wellFormed (now password) ≡ true) × (2064 ≤ length (now scratch)) × (length (now stream) ≤ length (now output)) ⌝ }
     ensures { λ r. ⌜ Settles (now (stream .entry)) (now (password .entry)) (now (scratch .entry)) (now (output .entry)) r (now (scratch .exit)) (now (output .exit)) ⌝ }
 {
-    match check_book(stream) {
-        Surveyed::Refused(refusal) => Answer::Refused(refusal),
-        Surveyed::Locked(found) => open_book(stream, found, password, scratch, output),
+    match survey::survey(stream) {
+        survey::Surveyed::Refused(refusal) => Answer::Refused(refusal),
+        survey::Surveyed::Locked(surveyed) => open_locked(
+            stream,
+            surveyed,
+            password,
+            scratch,
+            output,
+        ),
     }
 }
 

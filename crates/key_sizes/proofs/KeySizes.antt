@@ -26,18 +26,17 @@ use Rattle.binary_office.proofs.Headers.{le16-value, le32-value, le16-first, le
 use Rattle.binary_office.proofs.Locks.{bits-zero, bits-stated, part-cut}
 use Rattle.binary_office.proofs.KeySizes.{facts-are, no-size}
 use Rattle.binary_office.proofs.Bodies.{impossible}
-use Rattle.file_params.specs.declared.Refusal.{Refusal}
-use Rattle.file_params.specs.declared.Refusal.the-variants.{WrongPassword}
-use Rattle.file_params.specs.Questions.{Question, ask, asked, only, lent, inOrder, locked, book, lock, rc4, version, office97, cryptoApi, encryptionType, questions, filepass, bodyOf, filepassBody, otherId, startsBof, isSome, typeOf, structureOf, majorOf, minorOf, isOffice97, isCryptoApi, headerSize, verifierAt, keySize}
+use Rattle.file_params.specs.Questions.{Question, asked, only, inOrder, locked, book, lock, rc4, version, office97, cryptoApi, encryptionType, ofStream, filepass, bodyOf, filepassBody, otherId, startsBof, isSome, typeOf, structureOf, majorOf, minorOf, isOffice97, isCryptoApi, headerSize, verifierAt, keySize}
 use Rattle.file_params.proofs.Laws.{none-of-both, first-yes, rest-yes, only-yes}
 use Rattle.rc4_cryptoapi.specs.Parse.{keyBits}
 use Rattle.block_keys.specs.declared.Rc4Lock.{Rc4Lock}
 use Rattle.block_keys.specs.Lock.{lockOf, office97Lock, cryptoApiLock}
 use Rattle.excel97.specs.declared.Lock.the-variants.{Xor, Office97, CryptoApi}
 use Rattle.excel97.specs.declared.Report.{Report}
-use Rattle.excel97.specs.declared.Answer.the-variants.{Opened, Refused}
-use Rattle.excel97.specs.Open.{passes, byKind, report, outcomeBy, outcome}
-use Rattle.excel97.proofs.Settled.{at-most-one, xor-reported, rc4-reported}
+use Rattle.excel97.specs.Open.{byKind, report}
+use Rattle.survey.specs.Survey.{bookOf}
+use Rattle.survey.proofs.Locked.{at-most-one}
+use Rattle.excel97.proofs.Settled.{xor-reported, rc4-reported, has-opened}
 use Rattle.key_sizes.specs.KeySizes.{OfAnyRun}
 use Rattle.key_sizes.proofs.Scanned.{seen-there, seen-not, looked}
 
@@ -182,7 +181,7 @@ module _ (s : List ℕ) (passed : none ≡ asked (lock (filepassBody s))) (is : 
   type-one : typeOf its-body ≡ 1
   type-one =
       same-or (typeOf its-body) 0
-      (λ z. let g : Xor ≡ CryptoApi = ap (λ (r : Report). r .lock) (xor-reported s z) ∙ is in impossible (cc))
+      (λ z. let g : Xor ≡ CryptoApi = ap (λ (r : Report). r .lock) (xor-reported s (bookOf s) refl z) ∙ is in impossible (cc))
       (λ z. one (typeOf its-body) z (at-most-one its-body passed))
     where
       one : (t : ℕ) → (t ≡ 0 → ⊥) → t ≤ 1 → t ≡ 1
@@ -196,13 +195,13 @@ module _ (s : List ℕ) (passed : none ≡ asked (lock (filepassBody s))) (is : 
       go false g = g
       go true g =
           let l : lockOf (structureOf its-body) ≡ office97Lock = taken office97Lock (cryptoApiLock (structureOf its-body)) g in
-          let z : Office97 ≡ CryptoApi = ap (λ (k : Rc4Lock). byKind (k .kind)) (sym l) ∙ ap (λ (r : Report). r .lock) (rc4-reported s type-one) ∙ is in
+          let z : Office97 ≡ CryptoApi = ap (λ (k : Rc4Lock). byKind (k .kind)) (sym l) ∙ ap (λ (r : Report). r .lock) (rc4-reported s (bookOf s) refl type-one) ∙ is in
           impossible (cc)
 
   bits-told : report s .«key_bits» ≡ keyBits (structureOf its-body)
   unfolding lockOf
   bits-told =
-      ap (λ (r : Report). r .«key_bits») (sym (rc4-reported s type-one))
+      ap (λ (r : Report). r .«key_bits») (sym (rc4-reported s (bookOf s) refl type-one))
       ∙ ap (λ (k : Rc4Lock). k .«key_bits») (left office97Lock (cryptoApiLock (structureOf its-body)) not-office97)
 
   bits-positive : report s .«key_bits» ≡ 0 → ⊥
@@ -268,30 +267,21 @@ module _ (s : List ℕ) (passed : none ≡ asked (lock (filepassBody s))) (is : 
           (λ h. h)
           (λ h. let z : NoSize ≡ Bits (report s .«key_bits») = sym (size-none h) ∙ g in impossible (cc))
 
--- a run that opens a stream passed every question, and tells the stream's report
-opened : (stream password scratch output : List ℕ) (told : Report) (o : Option Refusal) → outcomeBy stream password scratch output o .answer ≡ Opened told
-    → (o ≡ none) × (told ≡ report stream)
-opened stream password scratch output told none e = let z : report stream ≡ told = cc in (refl, sym z)
-opened stream password scratch output told (some r) e = let z : Refused r ≡ Opened told = e in impossible (cc)
-
 pub same-key-size : OfAnyRun
-unfolding outcome questions
+unfolding ofStream
 same-key-size stream password scratch output verdict answer scratch′ output′ told v run a c =
-    let all = questions stream password scratch output (passes (filepassBody stream) password) in
-    let lending = lent password (length stream) (length scratch) (length output) in
-    let last = ask (passes (filepassBody stream) password) WrongPassword ∷ [] in
-    let h = opened stream password scratch output told (asked all) (sym (run .answered) ∙ a) in
-    let past-lent = none-of-both lending (book stream ++ (lock (filepassBody stream) ++ last)) (h .0) .1 in
-    let past-book = none-of-both (book stream) (lock (filepassBody stream) ++ last) past-lent in
-    let past-lock = none-of-both (lock (filepassBody stream)) last (past-book .1) .0 in
-    let is : report stream .lock ≡ CryptoApi = ap (λ (r : Report). r .lock) (sym (h .1)) ∙ c in
-    let r = found stream (sym past-lock) is (past-book .0) in
-    let bits : told .«key_bits» ≡ report stream .«key_bits» = ap (λ (r : Report). r .«key_bits») (h .1) in
+    let h = has-opened stream password scratch output told scratch′ output′ (rw a at run) in
+    let passed = none-of-both (book stream) (lock (filepassBody stream)) (sym (h .alone)) in
+    let past-book = passed .0 in
+    let past-lock = passed .1 in
+    let is : report stream .lock ≡ CryptoApi = ap (λ (r : Report). r .lock) (sym (h .told)) ∙ c in
+    let r = found stream (sym past-lock) is past-book in
+    let bits : told .«key_bits» ≡ report stream .«key_bits» = ap (λ (r : Report). r .«key_bits») (h .told) in
     record {
       first = r .0;
       found = r .1;
       sized = λ z. bits-positive stream (sym past-lock) is (sym bits ∙ z);
-      same = λ k. ap reported v ∙ size-same stream (sym past-lock) is (past-book .0) (r .0) (r .1) k ∙ ap Bits (sym bits);
-      only = λ g. size-only stream (sym past-lock) is (past-book .0) (r .0) (r .1) (sym (ap reported v) ∙ g ∙ ap Bits bits);
-      none-behind = λ k. ap reported v ∙ size-none stream (sym past-lock) is (past-book .0) (r .0) (r .1) k;
+      same = λ k. ap reported v ∙ size-same stream (sym past-lock) is past-book (r .0) (r .1) k ∙ ap Bits (sym bits);
+      only = λ g. size-only stream (sym past-lock) is past-book (r .0) (r .1) (sym (ap reported v) ∙ g ∙ ap Bits bits);
+      none-behind = λ k. ap reported v ∙ size-none stream (sym past-lock) is past-book (r .0) (r .1) k;
     }

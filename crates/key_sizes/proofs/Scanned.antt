@@ -28,7 +28,7 @@ use Rattle.binary_office.proofs.Bodies.{impossible}
 use Rattle.binary_office.proofs.Locks.{scan-no-id, scan-no-len, scan-found, scan-past, scan-on, look-scan}
 use Rattle.file_params.specs.Questions.{filepass, otherId, startsBof}
 use Rattle.survey.proofs.First.{starts, not-bof}
-use Rattle.excel97.proofs.Records.{filepass-here, filepass-on, other-here, other-on, no-filepass, located}
+use Rattle.survey.proofs.Records.{filepass-here, filepass-on, other-here, other-on, no-filepass, located}
 
 -- the first `most` bytes of a stream
 module _ (s : List ℕ) (most : ℕ) where

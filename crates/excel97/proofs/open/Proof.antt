@@ -40,7 +40,7 @@ returns-2 c =
     (sym (at-check-lent .check-lent .ensures) ∙ at-enum-told .enum-told .given .1) in
     let t = lent-tells (args .password .now) (length (args .stream .now)) (length (args .scratch .now)) (length (args .output .now)) e in
     settled-all (args .stream .now) (args .password .now) (args .scratch .now) (args .output .now) e _ _ _ _ (at-open-stream .open-stream .ensures)
-    (rw (at-open-stream .open-stream .ensures .same) (t .1)) (at-wipe .wipe .ensures .1)
+    (rw (at-open-stream .open-stream .ensures .same) (t .2)) (at-wipe .wipe .ensures .1)
 
 pub open-spec : {M : Type 1} → statement M
 open-spec =

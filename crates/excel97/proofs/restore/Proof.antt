@@ -8,7 +8,8 @@ use Rattle.laws.proofs.Written.{Written, written-none}
 use Rattle.binary_office.specs.Walk.{BiffRecord}
 use Rattle.binary_office.proofs.Walks.{record-within}
 use Rattle.excel97.specs.Steps.{throughAt}
-use Rattle.excel97.proofs.Records.{clear-within, Reached, reached-none, reached-on, reached-fault, reached-end}
+use Rattle.survey.proofs.Records.{clear-within}
+use Rattle.excel97.proofs.Records.{Reached, reached-none, reached-on, reached-fault, reached-end}
 use borrow.Author.Needs.{needs}
 use Rattle.excel97.proofs.Through.{through-kept}
 use Rattle.excel97.proofs.restore.Statement.{statement}

@@ -1,19 +1,22 @@
 -- `excel97::unlock_rc4` meets its contract: the schedule, the check, the deciphered stream, and the blanked FILEPASS.
 -- Assumes nothing.
-use mathlib.Core.Path.{_≡_, refl, sym, ap, _∙_}
-use mathlib.Core.Bool.{true, false}
+use mathlib.Core.Path.{_≡_, refl, sym, _∙_}
+use mathlib.Core.Bool.{true}
 use mathlib.Core.List.{List}
-use Prim.Native.Nat.{ℕ, _+_, _-_, _≤_}
+use Prim.Native.Nat.{ℕ, _+_, _-_, _^_, _≤_, _<_}
+use native.Mathlib.Omega.{arith}
 use lib.Bits.{bitXor}
 use lib.ListN.{length, take, drop}
 use borrow.Author.Tests.{not-true, not-false}
 use Rattle.binary_office.specs.Walk.{BiffRecord}
 use Rattle.file_params.specs.Questions.{filepassBody, structureOf}
-use Rattle.block_keys.specs.BlockKeys.{scheduleOf, blockKey, keystreamAt}
+use Rattle.laws.proofs.Choice.{stop, skip}
+use Rattle.block_keys.specs.BlockKeys.{scheduleOf, blockKey, keystreamAt, startedBlocks}
 use Rattle.block_keys.specs.Lock.{part}
 use Rattle.excel97.proofs.Blanked.{never}
 use borrow.Author.Needs.{needs}
-use Rattle.excel97.proofs.Unlocked.{body-slice, structure-slice, plain-left, unlocks-no, unlocks-yes, rc4-told, rc4-plain, made, left-zero, schedule-made}
+use Rattle.survey.proofs.Asked.{body-slice}
+use Rattle.excel97.proofs.Unlocked.{structure-slice, plain-left, unlocks-no, unlocks-yes, rc4-told, rc4-plain, keys-in-all, made, left-zero, schedule-made}
 use Rattle.excel97.proofs.unlock_rc4.Statement.{statement}
 use Rattle.excel97.proofs.unlock_rc4.Tie as tie
 
@@ -32,7 +35,7 @@ module _ (c : tie.Start) where
   body-is = body-slice stream (c .args .at) (c .args .len) (c .pre .0 .found)
 
   structure-is : structure ≡ structureOf (filepassBody stream)
-  structure-is = structure-slice stream (c .args .at) (c .args .len) (c .pre .0 .found) body body-is
+  structure-is = structure-slice stream body body-is
 
   room : 2 ≤ length body
   room = rw body-is (c .pre .2)
@@ -72,7 +75,21 @@ returns-2 c =
           (start .pre .3) (schedule-is at-schedule-of) _ (c .before .verify .ensures)
           ∙ not-true _ (c .if2 .taken)),
       left-zero (args .lock) _ (args .password .now) (args .scratch .now) _ _ (at-schedule-of .schedule-of .ensures) (start .pre .5) (start .pre .4),
+      skip _ refl refl,
     )
+
+-- the keys of all blocks, and one more
+few : (n : ℕ) → n < 2 ^ 63 → 1 + startedBlocks 1024 n < 2 ^ 64
+unfolding startedBlocks
+few n h = omega arith
+
+add-t15 : tie.Need-add-t15
+add-t15 c =
+    let at-unrc4 = c .before .before .before .before .before .before in
+    let start = at-unrc4 .before .before .before .before .before .before .before .before .before .before .before .before .before .before .before .before .before in
+    let told = at-unrc4 .unrc4 .ensures .0 in
+    let h = few (length (start .args .stream .now)) (omega (arith, start .good)) in
+    omega arith
 
 returns-3 : tie.Need-returns-3
 returns-3 c =
@@ -90,11 +107,12 @@ returns-3 c =
           (plain-left (args .stream .now) (args .at) (args .len) (start .pre .0 .found) (args .password .now) (args .output .now) _ _
           (λ (r : BiffRecord) (o x : ℕ). bitXor x (keystreamAt 1024 (blockKey (at-schedule-of .schedule-of .result .schedule)) o)) (start .pre .0 .inside)
           (start .pre .0 .room)
-          (at-unrc4 .unrc4 .ensures)
+          (at-unrc4 .unrc4 .ensures .1)
           (rc4-plain (filepassBody (args .stream .now)) (args .password .now) (structure start) (args .lock) _ (start .pre .1) (structure-is start)
           (start .pre .3) (schedule-is at-schedule-of))
           (at-blank .blank .ensures)),
       left-zero (args .lock) _ (args .password .now) (args .scratch .now) _ _ (at-schedule-of .schedule-of .ensures) (start .pre .5) (start .pre .4),
+      rw (at-unrc4 .unrc4 .ensures .0) (keys-in-all (filepassBody (args .stream .now)) (args .password .now) (start .pre .1) (length (args .stream .now)) ∙ stop _ refl),
     )
 
 pub unlock-rc4-spec : {M : Type 1} → statement M
@@ -117,6 +135,7 @@ unlock-rc4-spec =
     returns-2
     (λ c κs. search needs)
     (λ c κs. search needs)
+    add-t15
     (λ c. search needs)
     (λ c. search needs)
     returns-3)

@@ -8,7 +8,8 @@ use Rattle.file_params.specs.Questions.{filepassBody}
 use Rattle.sensitive.specs.Ansi.{ansi}
 use Rattle.excel97.specs.Open.{xorByte, xorMatches}
 use borrow.Author.Needs.{needs}
-use Rattle.excel97.proofs.Unlocked.{body-slice, plain-left, unlocks-no, unlocks-yes, xor-passes, xor-bytes}
+use Rattle.survey.proofs.Asked.{body-slice}
+use Rattle.excel97.proofs.Unlocked.{plain-left, unlocks-no, unlocks-yes, xor-passes, xor-bytes}
 use Rattle.excel97.proofs.unlock_xor.Statement.{statement}
 use Rattle.excel97.proofs.unlock_xor.Tie as tie
 

@@ -5,7 +5,7 @@ use Prim.Native.Nat.{ℕ, _+_, _-_, _≤_}
 use native.Mathlib.Omega.{arith}
 use lib.ListN.{length}
 use Rattle.binary_office.specs.Walk.{clearLen}
-use Rattle.excel97.proofs.Records.{clear-within}
+use Rattle.survey.proofs.Records.{clear-within}
 use borrow.Author.Needs.{needs}
 use Rattle.excel97.proofs.Through.{xor-record}
 use Rattle.excel97.proofs.unxor_record.Statement.{statement}

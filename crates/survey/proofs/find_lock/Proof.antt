@@ -1,4 +1,4 @@
--- `excel97::find_lock` meets its contract: each way out is one question, and a structure of type 1 is read by its own table.
+-- `survey::find_lock` meets its contract: each way out is one question, and a structure of type 1 is read by its own table.
 -- Assumes nothing.
 use mathlib.Core.Path.{_≡_, sym, ap, _∙_}
 use Prim.Native.Nat.{ℕ, _-_, _≤_}
@@ -10,9 +10,9 @@ use lib.Seq.{take-all}
 use Rattle.binary_office.proofs.Headers.{le16-within}
 use Rattle.block_keys.specs.Lock.{schemeOf}
 use borrow.Author.Needs.{needs}
-use Rattle.excel97.proofs.Asked.{no-type, xor-cut, xor-lock, other-type, rc4-refused, rc4-locked}
-use Rattle.excel97.proofs.find_lock.Statement.{statement}
-use Rattle.excel97.proofs.find_lock.Tie as tie
+use Rattle.survey.proofs.Locked.{no-type, xor-cut, xor-lock, other-type, rc4-refused, rc4-locked}
+use Rattle.survey.proofs.find_lock.Statement.{statement}
+use Rattle.survey.proofs.find_lock.Tie as tie
 
 returns : tie.Need-returns
 returns c =
