@@ -1,0 +1,4 @@
+pub mod Counted
+pub mod Foretold
+pub mod Keys
+pub mod Proved
