@@ -1,9 +1,8 @@
-/* Protected Excel 97-2003 workbook streams: looking, opening, and the directory of sheets.
+/* Protected Excel 97-2003 workbook streams: looking, the directory of sheets, forecasting what opening takes, and opening.
  *
  * libsheet.a has no heap, no operating system and no global state. It reads and writes only what the caller
- * lends, and every function is proved to end, to do nothing undefined and to answer what the definitions in
- * crates/binary_office/specs, crates/file_params/specs, crates/directory/specs and crates/excel97/specs say, for
- * every argument that follows these rules:
+ * lends, and every function is proved to end, to do nothing undefined and to answer what the definitions in the crates'
+ * specs/ say (docs/TRUST.md lists them), for every argument that follows these rules:
  *
  *   - A pointer with a length points to that many bytes. A length of 0 goes with any pointer but NULL.
  *   - facts points to eight numbers.
@@ -118,6 +117,31 @@ uint32_t sheet_record(const uint8_t *stream, size_t stream_len, size_t at, uint6
  * gibibyte: a host should limit the length of streams that it does not trust. */
 uint32_t sheet_directory(const uint8_t *stream, size_t stream_len, size_t place, uint64_t facts[8]);
 
+/* What opening a stream will take, told by the stream alone, without a password.
+ *
+ * Answers 0 if only the password is left to be checked. Then
+ *
+ *   - facts[0] is the number of output bytes: the stream's length;
+ *   - facts[1] is the number of records;
+ *   - facts[2] is the number of enciphered body bytes: the lengths of all bodies less their clear parts, summed, both as
+ *     sheet_record tells them;
+ *   - facts[3] is the number of block keys that are derived: 0 under XOR; under RC4 one for the check of the password, and
+ *     one for each started 1,024 bytes of the stream, so that the key of the first block counts twice.
+ *
+ * These are proved to be the four that sheet_open reports of a stream that it opens, and facts[2] + 4 * facts[1] never to
+ * pass stream_len.
+ *
+ * Any other answer is a refusal, 4 or 6 to 26, and facts[0] and facts[1] are its two details. The lowest number that applies
+ * is given. All eight facts are written, whatever the answer; the others are 0.
+ *
+ * A stream is proved to be refused here exactly when sheet_open refuses it by a number other than 27, where sheet_open is
+ * given any well-formed password of at most 1,024 bytes and is lent enough scratch and output; and then number and details
+ * are the same.
+ *
+ * One pass over the records reads every header; of the bodies, only that of the first FILEPASS record is read. The time is
+ * linear in the number of records. */
+uint32_t sheet_forecast(const uint8_t *stream, size_t stream_len, uint64_t facts[8]);
+
 /* Opens a locked workbook stream.
  *
  * The password is UTF-8, without a terminating zero. The output has room for the stream; the plain stream has the
@@ -126,10 +150,11 @@ uint32_t sheet_directory(const uint8_t *stream, size_t stream_len, size_t place,
  * Answers 0 if the stream was opened. Then output[0 .. stream_len) is the plain stream and the rest of the output
  * is as it was. facts[0] is the number of records; facts[1] the lock: 0 XOR, 1 Office 97 RC4 (version 1.1),
  * 2 RC4 CryptoAPI; facts[2] the key size in bits: 0 for XOR, 40 for 1.1; facts[3] is 1 if the document summary
- * is sealed too. The others are 0.
+ * is sealed too; facts[4] is the number of output bytes, facts[5] that of enciphered body bytes and facts[6] that of block
+ * keys. facts[7] is 0. The records and the last three are what sheet_forecast tells of the stream.
  *
- * Any other answer is a refusal, 1 to 27: the output is as it was, and facts[0] and facts[1] are its two details. The
- * lowest number that applies is given.
+ * Any other answer is a refusal, 1 to 27: the output is as it was, facts[0] and facts[1] are its two details, and the
+ * other facts are 0. The lowest number that applies is given.
  *
  * On 1 to 5 the scratch is as it was; otherwise its first 2,064 bytes are zero afterwards, on success too, and the rest
  * is as it was.
@@ -138,8 +163,8 @@ uint32_t sheet_directory(const uint8_t *stream, size_t stream_len, size_t place,
  * stack frames and in registers, of which no proof can speak once the call has returned. A host that minds should
  *
  *   - call sheet_open from a function that is not inlined, and then, from the same caller, a second one that is not
- *     inlined and overwrites a local array of 16 KiB through a pointer to volatile. A call was measured to go 3,024
- *     bytes deep, and 5,560 where the dynamic linker binds memcpy or memset during it;
+ *     inlined and overwrites a local array of 16 KiB through a pointer to volatile. A call was measured to go 3,104
+ *     bytes deep, and 5,704 where the dynamic linker binds memcpy or memset during it;
  *   - link with -z now, or clear the vector registers after the call (vzeroall, and zmm16 to zmm31 where there are
  *     any): memcpy leaves parts of the tables there, and a function bound at its first call, or a signal handled on
  *     the same stack, saves them to the stack;

@@ -1,21 +1,14 @@
 -- The key size in C, from `key_sizes`: no refusal has the number 0, so an answer of 0 is a book that was opened, and its facts are those of the report.
 -- Assumes nothing.
 use mathlib.Core.Path.{_≡_, refl, sym, ap, _∙_}
-use mathlib.Core.Bool.{true}
 use mathlib.Core.List.{List}
 use Prim.Native.Nat.{ℕ, _+_}
-use native.Mathlib.Omega.{arith}
-use borrow.Author.Tests.{leb-true}
-use lib.Dec.{leb}
 use lib.ListN.{getD}
 use Rattle.laws.proofs.Choice.{either}
 use Rattle.binary_office.specs.declared.KeySize.{KeySize}
 use Rattle.binary_office.specs.declared.Verdict.{Verdict}
 use Rattle.binary_office.specs.declared.Verdict.the-variants.{Yes, No, Unknown}
 use Rattle.binary_office.specs.Look.{look}
-use Rattle.file_params.specs.declared.Refusal.{Refusal}
-use Rattle.file_params.specs.declared.Refusal.the-variants as refusal
-use Rattle.file_params.specs.Refusal.{number}
 use Rattle.excel97.specs.declared.Lock.{Lock}
 use Rattle.excel97.specs.declared.Lock.the-variants.{Xor, Office97, CryptoApi}
 use Rattle.excel97.specs.declared.Answer.{Answer}
@@ -25,41 +18,7 @@ use Rattle.binary_office.specs.KeySizes.{reported}
 use Rattle.key_sizes.proofs.KeySizes.{same-key-size}
 use Rattle.sheet.specs.Facts.{bitsOf, lookFacts, lockNumber, openNumber, openFacts, OpensInC}
 use Rattle.sheet.specs.KeySizes.{SameInC, OfAnyRunInC}
-
--- no refusal has the number 0
-positive : (r : Refusal) → leb 1 (number r) ≡ true
-positive refusal.PasswordTooLong = refl
-positive refusal.PasswordMalformed = refl
-positive refusal.ScratchShort = refl
-positive refusal.StreamTooLarge = refl
-positive refusal.OutputShort = refl
-positive (refusal.BiffRecordUnreadable offset) = refl
-positive refusal.WorkbookBofMissing = refl
-positive refusal.NotEncrypted = refl
-positive (refusal.FilepassOutOfOrder id) = refl
-positive (refusal.FilepassTruncated have need) = refl
-positive (refusal.FilepassEncryptionType got) = refl
-positive (refusal.EncryptionVersionInfoTruncated have) = refl
-positive (refusal.UnsupportedEncryptionVersion major minor) = refl
-positive (refusal.Rc4Office97HeaderTruncated have) = refl
-positive (refusal.EncryptionInfoTruncated have) = refl
-positive (refusal.EncryptionHeaderSizeOutOfRange got) = refl
-positive (refusal.EncryptionHeaderSizeOutOfBounds size have) = refl
-positive (refusal.FlagExternal flags) = refl
-positive (refusal.FlagAes flags) = refl
-positive (refusal.FlagCryptoApiClear flags) = refl
-positive (refusal.UnsupportedAlgId got) = refl
-positive (refusal.UnsupportedAlgIdHash got) = refl
-positive (refusal.EncryptionHeaderKeySize got) = refl
-positive (refusal.EncryptionVerifierTruncated have) = refl
-positive (refusal.VerifierSaltSize got) = refl
-positive (refusal.VerifierHashSize got) = refl
-positive refusal.WrongPassword = refl
-positive (refusal.BoundSheetStart offset) = refl
-positive (refusal.BofEofUnpaired offset) = refl
-
-not-refused : {X : Type 0} (r : Refusal) → number r ≡ 0 → X
-not-refused r e = let h = leb-true 1 (number r) (positive r) in absurd (omega arith)
+use Rattle.sheet.proofs.Numbers.{not-refused}
 
 -- the number of a lock tells it
 lock-is : (l : Lock) → lockNumber l ≡ 2 → l ≡ CryptoApi

@@ -1,1 +1,3 @@
+pub mod Forecasts
 pub mod KeySizes
+pub mod Numbers

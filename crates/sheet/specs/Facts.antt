@@ -28,12 +28,15 @@ use Rattle.directory.specs.declared.Start.the-variants.{At, Nothing}
 use Rattle.directory.specs.declared.Sheets.{Sheets}
 use Rattle.directory.specs.declared.Answer as directory
 use Rattle.directory.specs.declared.Answer.the-variants as answer
+use Rattle.forecast.specs.declared.Counts.{Counts}
+use Rattle.forecast.specs.declared.Answer as forecast
+use Rattle.forecast.specs.declared.Answer.the-variants as foretold
 
 -- true is 1
 abbrev pub flag : Bool → ℕ
 flag b = pick b 1 0
 
--- eight facts
+-- eight facts, of which five are used at most
 abbrev pub facts : ℕ → ℕ → ℕ → ℕ → ℕ → List ℕ
 facts a b c d e = a ∷ b ∷ c ∷ d ∷ e ∷ 0 ∷ 0 ∷ 0 ∷ []
 
@@ -92,7 +95,17 @@ abbrev pub directoryFacts : directory.Answer → List ℕ
 directoryFacts (answer.Told t) = startFacts (t .count) (t .start)
 directoryFacts (answer.Refused r) = refusalFacts r
 
--- Open: 0, or the refusal's number; records, lock (0 XOR, 1 1.1, 2 CryptoAPI), key bits, summary sealed; or the refusal's two details
+-- the forecast: 0, or the refusal's number; output bytes, records, enciphered body bytes, block keys; or the refusal's two details
+abbrev pub forecastNumber : forecast.Answer → ℕ
+forecastNumber (foretold.Told c) = 0
+forecastNumber (foretold.Refused r) = number r
+
+abbrev pub forecastFacts : forecast.Answer → List ℕ
+forecastFacts (foretold.Told c) = facts (c .«output_bytes») (c .records) (c .«enciphered_body_bytes») (c .«block_keys») 0
+forecastFacts (foretold.Refused r) = refusalFacts r
+
+-- Open: 0, or the refusal's number; records, lock (0 XOR, 1 1.1, 2 CryptoAPI), key bits, summary sealed, output bytes,
+-- enciphered body bytes, block keys; or the refusal's two details
 abbrev pub lockNumber : Lock → ℕ
 lockNumber Xor = 0
 lockNumber Office97 = 1
@@ -103,7 +116,8 @@ openNumber (Opened r) = 0
 openNumber (Refused r) = number r
 
 abbrev pub openFacts : Answer → List ℕ
-openFacts (Opened r) = facts (r .records) (lockNumber (r .lock)) (r .«key_bits») (flag (r .«summary_sealed»)) 0
+openFacts (Opened r) =
+    r .records ∷ lockNumber (r .lock) ∷ r .«key_bits» ∷ flag (r .«summary_sealed») ∷ r .«output_bytes» ∷ r .«enciphered_body_bytes» ∷ r .«block_keys» ∷ 0 ∷ []
 openFacts (Refused r) = refusalFacts r
 
 -- what `sheet_open` answers and leaves

@@ -5,7 +5,8 @@ ghost use Rattle.laws.specs.Choice.{pick};
 ghost use Rattle.binary_office.specs.Walk.{stepAt};
 ghost use Rattle.binary_office.specs.Look.{look, sameLock};
 ghost use Rattle.directory.specs.Directory.{directory};
-ghost use Rattle.sheet.specs.Facts.{flag, facts, lookNumber, lookFacts, recordNumber, recordFacts, startFacts, refusalFacts, directoryNumber, directoryFacts, bitsOf, thereOf, majorOf, minorOf, lockNumber, openNumber, openFacts, OpensInC};
+ghost use Rattle.forecast.specs.Forecast.{forecast};
+ghost use Rattle.sheet.specs.Facts.{flag, facts, lookNumber, lookFacts, recordNumber, recordFacts, startFacts, refusalFacts, directoryNumber, directoryFacts, forecastNumber, forecastFacts, bitsOf, thereOf, majorOf, minorOf, lockNumber, openNumber, openFacts, OpensInC};
 
 // True is 1.
 fn flag(b: bool) -> u64
@@ -14,7 +15,7 @@ fn flag(b: bool) -> u64
     if b { 1 } else { 0 }
 }
 
-// Eight facts, of which the last three are never used.
+// Eight facts, of which five are used at most.
 fn facts(a: u64, b: u64, c: u64, d: u64, e: u64) -> [u64; 8]
     ensures { λ r. ⌜ r ≡ facts a b c d e ⌝ }
 {
@@ -141,6 +142,32 @@ fn directory_number(answer: directory::Answer) -> u32
     }
 }
 
+// The facts of a forecast.
+fn forecast_facts(answer: forecast::Answer) -> [u64; 8]
+    ensures { λ r. ⌜ r ≡ forecastFacts answer ⌝ }
+{
+    match answer {
+        forecast::Answer::Told(told) => facts(
+            told.output_bytes as u64,
+            told.records as u64,
+            told.enciphered_body_bytes as u64,
+            told.block_keys as u64,
+            0,
+        ),
+        forecast::Answer::Refused(refusal) => refusal_facts(refusal),
+    }
+}
+
+// The number of a forecast.
+fn forecast_number(answer: forecast::Answer) -> u32
+    ensures { λ r. ⌜ r ≡ forecastNumber answer ⌝ }
+{
+    match answer {
+        forecast::Answer::Told(_) => 0,
+        forecast::Answer::Refused(refusal) => file_params::number(refusal),
+    }
+}
+
 // The number of a lock.
 fn lock_number(lock: excel97::Lock) -> u64
     ensures { λ r. ⌜ r ≡ lockNumber lock ⌝ }
@@ -159,13 +186,18 @@ fn open_facts(answer: excel97::Answer) -> [u64; 8]
     match answer {
         excel97::Answer::Opened(report) => {
             let lock = report.lock;
-            facts(
+            let number = lock_number(lock);
+            let sealed = flag(report.summary_sealed);
+            [
                 report.records as u64,
-                lock_number(lock),
+                number,
                 report.key_bits as u64,
-                flag(report.summary_sealed),
+                sealed,
+                report.output_bytes as u64,
+                report.enciphered_body_bytes as u64,
+                report.block_keys as u64,
                 0,
-            )
+            ]
         }
         excel97::Answer::Refused(refusal) => refusal_facts(refusal),
     }
@@ -218,6 +250,16 @@ pub extern "C" fn sheet_directory(stream: &[u8], place: usize, told: &mut [u64; 
     let answer = directory::directory(stream, place);
     *told = directory_facts(answer);
     directory_number(answer)
+}
+
+// What opening will take.
+#[no_mangle]
+pub extern "C" fn sheet_forecast(stream: &[u8], told: &mut [u64; 8]) -> u32
+    ensures { λ r. ⌜ (r ≡ forecastNumber (forecast (now (stream .entry)))) × (now (told .exit) ≡ forecastFacts (forecast (now (stream .entry)))) ⌝ }
+{
+    let answer = forecast::forecast(stream);
+    *told = forecast_facts(answer);
+    forecast_number(answer)
 }
 
 // Open.

@@ -7,9 +7,9 @@ use Rattle.sheet.proofs.open_facts.Tie as tie
 
 returns : tie.Need-returns
 returns c =
-    let at-lock-number = c .before .before .before in
+    let at-lock-number = c .before .before in
     let at-answer = at-lock-number .before .before in
-    c .facts .ensures ∙ rw (at-lock-number .lock-number .ensures, c .before .flag .ensures, at-answer .answer .given .1)
+    rw (at-lock-number .lock-number .ensures, c .before .flag .ensures, at-answer .answer .given .1)
 
 returns-2 : tie.Need-returns-2
 returns-2 c = c .refusal-facts .ensures ∙ rw (c .before .before .answer2 .given .1)
@@ -20,9 +20,8 @@ open-facts-spec =
     (tie.spec
     (λ c. search needs)
     (λ c κs. search needs)
+    (λ c κs. search needs)
     (λ c. search needs)
-    (λ c κs. search needs)
-    (λ c κs. search needs)
     (λ c. search needs)
     (λ c κs. search needs)
     returns
