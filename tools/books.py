@@ -32,13 +32,19 @@ def clear_of(number, length):
 
 
 class Rc4:
-    """An RC4 lock: how it hashes, the key of a block, and the FILEPASS body."""
+    """An RC4 lock: how it hashes, the key of a block, and the FILEPASS body. `derived` is how many block keys were derived so far, and `enciphered` how many
+    bytes of bodies were."""
+    derived = enciphered = 0
+
+    def keyed(self, password, block, data):
+        self.derived += 1
+        return rc4(self.key(password, block), data)
 
     def filepass(self, password):
-        return self.body(rc4(self.key(password, 0), VERIFIER + self.digest(VERIFIER).digest()))
+        return self.body(self.keyed(password, 0, VERIFIER + self.digest(VERIFIER).digest()))
 
     def seal(self, stream, password):
-        return b"".join(rc4(self.key(password, at // 1024), stream[at:at + 1024]) for at in range(0, len(stream), 1024))
+        return b"".join(self.keyed(password, at // 1024, stream[at:at + 1024]) for at in range(0, len(stream), 1024))
 
 
 class Office97(Rc4):
@@ -73,7 +79,7 @@ class CryptoApi(Rc4):
 
 
 class Xor:
-    number, bits, sealed = 0, 0, 0
+    number = bits = sealed = derived = enciphered = 0
     known = {}
 
     def __init__(self):
@@ -106,8 +112,9 @@ def book(lock, password, records):
     locked, plain, at = b"", b"", 0
     for k, (number, body) in enumerate(records):
         start, end, clear = at + 4, at + 4 + len(body), clear_of(number, len(body))
-        locked += joined[at:start + clear]
-        locked += under[start + clear:end] if isinstance(lock, Rc4) else lock.seal_body(body, clear, end, password)[clear:]
+        part = under[start + clear:end] if isinstance(lock, Rc4) else lock.seal_body(body, clear, end, password)[clear:]
+        lock.enciphered += len(part)
+        locked += joined[at:start + clear] + part
         plain += record(0, bytes(len(body))) if k == first else joined[at:end]
         at = end
     return locked, plain

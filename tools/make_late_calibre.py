@@ -4,7 +4,8 @@ sheet alone with its password, host/examples/calibres.bin and calibres.password.
 
 Usage, at the root of the project: tools/make_late_calibre.py. A sheet is a table of calibres, a Label record (MS-XLS 2.4.148) with the name and an RK
 record (2.4.220) with the lift angle for each. All have 52 degrees but the last, which has 50 and stands past the first kilobyte; books.py locks the
-sheet. In the data a sheet is a heading, a password and the locked stream, each behind its length of four bytes, the lower first.
+sheet, and counts the keys and the bytes that this takes. In the data a sheet is a heading, a password and the locked stream, each behind its length of four bytes, the
+lower first.
 """
 import pathlib
 import struct
@@ -35,9 +36,12 @@ def globals_(lock_len):
 
 sheets, text = b"", ""
 for name, lock, password in ("XOR", xor, xor.passwords(12)[0]), ("RC4 1.1", Office97(), "Hebungswinkel 50°"), ("RC4 CryptoAPI", CryptoApi(), "Hebungswinkel 50°"):
-    stream, plain = book(lock, password, globals_(len(lock.filepass(password))) + sheet)
+    records = globals_(len(lock.filepass(password))) + sheet
+    derived, enciphered = lock.derived, lock.enciphered
+    stream, plain = book(lock, password, records)
+    took = f"{len(stream)} bytes, {len(records)} records, {lock.enciphered - enciphered} bytes enciphered, {lock.derived - derived} block keys"
     assert plain.rindex(struct.pack("<H", RK)) > 1024
-    for heading, tried, line in (name, password, "50"), (f"{name}, another password", password[:-1], "refused, 27"):
+    for heading, tried, line in (name, password, f"50; {took}"), (f"{name}, another password", password[:-1], "refused, 27"):
         for part in heading.encode(), tried.encode(), stream:
             sheets += struct.pack("<I", len(part)) + part
         text += f"{heading}: {line}\n"

@@ -2,8 +2,10 @@
 """Writes the data of the program `short_books`, crates/short_books/data/cases, and what it is to print, crates/short_books/stdout.
 
 Usage, at the root of the project: tools/make_short_books.py. Needs OpenSSL's libcrypto. The locked streams are made from plain ones by books.py, so an
-opened stream's bytes are those it was made from; each refusal is stated here beside its case, from document 01's list of questions; the verdict of
-Look is computed here, from document 01's words and document 02's (T-03), and so is whether a stream and that of the case before have the same lock.
+opened stream's bytes are those it was made from, and the counts that Open reports are those of sealing it (how many keys books.py derived, how many bytes
+it enciphered); each refusal is stated here beside its case, from document 01's list of questions; the verdict of Look is computed here, from document 01's
+words and document 02's (T-03), and so is whether a stream and that of the case before have the same lock. The forecast of a stream that is refused by 4 or 6
+to 26 is that refusal; else it is computed here from the layout of the stream, by document 02's words (T-04).
 
 In the data a case is five parts, each behind its length of four bytes, the lower first: its name, the password, the stream, and, as parts of no bytes
 whose length alone counts, the scratch and the output. The program lends bytes (offset mod 251) + 1, which are never zero.
@@ -11,7 +13,7 @@ whose length alone counts, the scratch and the output. The program lends bytes (
 import pathlib
 import struct
 
-from books import BOF, BOUND_SHEET, EOF, FILEPASS, SEVEN, CryptoApi, Office97, Xor, book, record
+from books import BOF, BOUND_SHEET, EOF, FILEPASS, SEVEN, CryptoApi, Office97, Xor, book, clear_of, record
 
 B = record(BOF)
 XOR = Xor()
@@ -49,12 +51,23 @@ def look(stream):
     return 2, (0, 1, major, minor, size if size <= 4096 else 0)
 
 
-def lent(start, end):
-    return bytes(i % 251 + 1 for i in range(start, end))
+def counts(stream):
+    """Output bytes, records, enciphered body bytes and block keys of a stream that is in order."""
+    at = records = enciphered = 0
+    kind = None
+    while at < len(stream):
+        number, length = struct.unpack_from("<HH", stream, at)
+        if number == FILEPASS and kind is None:
+            kind = struct.unpack_from("<H", stream, at + 4)[0]
+        records += 1
+        enciphered += length - clear_of(number, length)
+        at += 4 + length
+    return len(stream), records, enciphered, 0 if kind == 0 else 1 + len(range(0, len(stream), 1024))
 
 
-def case(name, stream, password, number, facts=(), plain=None, scratch=2070, more=3, output=None):
-    """One case: `number` and `facts` are what Open answers; `plain` the stream it leaves, of which None says that the output is untouched."""
+def case(name, stream, password, number, facts=(), plain=None, scratch=2070, more=3, output=None, foretold=None):
+    """One case: `number` and `facts` are what Open answers; `plain` the stream it leaves, of which None says that the output is untouched. `foretold` is the
+    forecast's number and facts, where it is refused and Open is not asked that far."""
     global before
     password = password if isinstance(password, bytes) else password.encode()
     output = len(stream) + more if output is None else output
@@ -62,7 +75,10 @@ def case(name, stream, password, number, facts=(), plain=None, scratch=2070, mor
     zeros = 2064 if number == 0 or number >= 6 else 0
     seen = verdict, told = look(stream)
     same, before = verdict == 2 and seen == before, seen
-    words = [name, f"look {verdict}:", *map(str, told), f"same {same:d}", f"open {number}:", *map(str, (*facts, 0, 0, 0, 0)[:4]), f"scratch {zeros} zero, {scratch - zeros} as lent,"]
+    if foretold is None:
+        foretold = (0, counts(stream)) if number in (0, 1, 2, 3, 5, 27) else (number, facts)
+    words = [name, f"look {verdict}:", *map(str, told), f"same {same:d}", f"forecast {foretold[0]}:", *map(str, (*foretold[1], 0, 0, 0, 0)[:4])]
+    words += [f"open {number}:", *map(str, (*facts, 0, 0, 0, 0, 0, 0, 0)[:7]), f"scratch {zeros} zero, {scratch - zeros} as lent,"]
     if plain is None:
         words.append(f"output 0 written, {output} as lent")
     else:
@@ -76,8 +92,10 @@ def case(name, stream, password, number, facts=(), plain=None, scratch=2070, mor
 
 def opened(name, lock, password, records, **rest):
     """A book that opens, with its report."""
+    derived, enciphered = lock.derived, lock.enciphered
     stream, plain = book(lock, password, records)
-    case(name, stream, password, 0, (len(records), lock.number, lock.bits, lock.sealed), plain, **rest)
+    took = len(stream), lock.enciphered - enciphered, lock.derived - derived
+    case(name, stream, password, 0, (len(records), lock.number, lock.bits, lock.sealed, *took), plain, **rest)
 
 
 SMALL = [(BOF, bytes(4)), (FILEPASS, b""), (0x0042, b"\xb0\x04"), (EOF, b"")]
@@ -104,7 +122,7 @@ refused("type 2", B + record(FILEPASS, b"\2\0"), 11, (2,))
 refused("two bytes of version", B + record(FILEPASS, b"\1\0\1\0"), 12, (2, 4))
 refused("version 1.2", B + record(FILEPASS, b"\1\0\1\0\2\0"), 13, (1, 2))
 XOR_BOOK = B + record(FILEPASS, bytes.fromhex("000015b9c8ce")) + record(0x0042, b"\0\0")
-case("the XOR book", XOR_BOOK, "A", 0, (3, 0, 0, 0), B + record(0, bytes(6)) + record(0x0042, b"\xbe\x19"))
+case("the XOR book", XOR_BOOK, "A", 0, (3, 0, 0, 0, 20, 2, 0), B + record(0, bytes(6)) + record(0x0042, b"\xbe\x19"))
 refused("the XOR book, B", XOR_BOOK, 27, password="B")
 refused("the XOR book, no characters", XOR_BOOK, 27, password="")
 for bits in range(0, 137):
@@ -170,7 +188,7 @@ for name, lock in ("XOR", XOR), ("1.1", Office97()), ("CryptoAPI", CryptoApi()):
     opened(f"{name}, an output as long as the stream", lock, password, SMALL, more=0)
     opened(f"{name}, an output of one byte more", lock, password, SMALL, more=1)
     refused(f"{name}, an output one byte short", small(lock, password), 5, password=password, more=-1)
-refused("an output short for a stream that does not walk", B[:3], 5, output=2)
+refused("an output short for a stream that does not walk", B[:3], 5, output=2, foretold=(6, ()))
 
 # 6: every cut of a book
 for length in range(len(XOR_BOOK)):
@@ -217,7 +235,8 @@ for name, lock, whole in ("XOR", XOR, 6), ("1.1", Office97(), 54), ("CryptoAPI",
         else:
             told = 24, (length - 14 - header, 60)
         refused(f"{name}, a FILEPASS body of {length}", B + record(FILEPASS, body[:length]), *told, password=password)
-    case(f"{name}, a FILEPASS body of {whole + 1}", B + record(FILEPASS, body + b"\7"), password, 0, (2, lock.number, lock.bits, lock.sealed), B + record(0, bytes(whole + 1)))
+    case(f"{name}, a FILEPASS body of {whole + 1}", B + record(FILEPASS, body + b"\7"), password, 0,
+         (2, lock.number, lock.bits, lock.sealed, whole + 9, 0, 2 if lock.number else 0), B + record(0, bytes(whole + 1)))
 
 # 11 and 13
 for kind in 2, 3, 256, 257, 65535:
@@ -262,9 +281,21 @@ for at, number, sizes in (46, 25, (0, 15, 17, 2 ** 16 + 16)), (82, 26, (0, 19, 2
 
 # two questions at once: the earlier answers
 refused("AlgID and AlgIDHash", small(CryptoApi(algorithm=1, hashing=1), "calibre"), 21, (1,))
+refused("AlgID and key size", small(CryptoApi(algorithm=1, stated=39), "calibre"), 21, (1,))
 refused("AlgIDHash and key size", small(CryptoApi(hashing=1, stated=39), "calibre"), 22, (1,))
 refused("flags and AlgID", small(CryptoApi(flags=0, algorithm=1), "calibre"), 20, (0,))
 refused("key size and verifier", B + record(FILEPASS, CryptoApi(40, stated=39, name=b"").filepass("A")[:100]), 23, (39,))
+
+refused("another first id and a header cut short", record(0x0808) + b"\x42", 6, (4,))
+refused("a FILEPASS body that is cut short and a header too", B + record(FILEPASS, b"\0") + b"\x42", 6, (9,))
+refused("no FILEPASS and a body cut short", B + record(0x0042, bytes(2))[:5], 6, (4,))
+refused("another id before a FILEPASS of type 2", B + record(0x0042) + record(FILEPASS, b"\2\0"), 9, (0x0042,))
+refused("two other ids before FILEPASS", B + record(0x0042) + record(0x0043) + XOR_BOOK[4:], 9, (0x0042,))
+refused("a FILEPASS of type 2 before one that is XOR", B + record(FILEPASS, b"\2\0") + XOR_BOOK[4:], 11, (2,))
+refused("a password of 1025 bytes, and another id before FILEPASS", B + record(0x0042) + XOR_BOOK[4:], 1, password="p" * 1025, foretold=(9, (0x0042,)))
+refused("no UTF-8, and no FILEPASS", B, 2, password=b"\xff", foretold=(8, ()))
+refused("no scratch, and a type of 2", B + record(FILEPASS, b"\2\0"), 3, scratch=0, foretold=(11, (2,)))
+refused("no output, and key size 39", small(CryptoApi(40, stated=39), "calibre"), 5, output=0, foretold=(23, (39,)))
 
 # 27: wrong passwords
 for name, lock in ("XOR", XOR), ("1.1", Office97()), ("CryptoAPI", CryptoApi()):
@@ -311,6 +342,20 @@ for name, lock, password in ("XOR", XOR, XOR.passwords(15)[0]), ("XOR, one chara
     assert 3 * 1024 < len(stream) < 8192
     opened(f"{name}, four blocks", lock, password, records)
     refused(f"{name}, four blocks, another password", stream, 27, password=password + "x" if len(password) < 15 else password[:-1])
+
+# what opening takes: the stream's length about a block's end, clear parts of every length, no enciphered byte at all, one, and a second FILEPASS
+for name, lock in ("XOR", XOR), ("1.1", Office97()), ("CryptoAPI", CryptoApi()):
+    password = XOR.passwords(8)[0]
+    for length in 1023, 1024, 1025, 2047, 2048, 2049:
+        rest = length - len(book(lock, password, SMALL + [(0x00FD, b"")])[0])
+        opened(f"{name}, a stream of {length}", lock, password, SMALL + [(0x00FD, some(rest, length))])
+        refused(f"{name}, a stream of {length}, another password", book(lock, password, SMALL + [(0x00FD, some(rest, length))])[0], 27, password=password[:-1])
+    for length in range(7):
+        opened(f"{name}, a BoundSheet8 of {length}", lock, password, SMALL[:2] + [(BOUND_SHEET, some(length, 3)), (EOF, b"")])
+    opened(f"{name}, BOF and FILEPASS alone", lock, password, SMALL[:2])
+    opened(f"{name}, clear records alone", lock, password, SMALL[:2] + [(n, some(9, n)) for n in SEVEN] + [(BOUND_SHEET, some(4, 1)), (EOF, b"")])
+    opened(f"{name}, one enciphered byte", lock, password, SMALL[:2] + [(0x0042, b"\1")])
+    opened(f"{name}, a second FILEPASS", lock, password, SMALL[:2] + [(FILEPASS, lock.filepass(password)), (0x0042, b"\1\2"), (FILEPASS, b"")])
 
 # the remaining key sizes, on two blocks side by side and part of a third
 for bits in 48, *range(64, 128, 8):

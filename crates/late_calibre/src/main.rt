@@ -1,5 +1,5 @@
 // Opens sheets with a table of calibres, one under each lock, and prints the lift angle of the last calibre, whose record
-// stands past the first kilobyte; with another password it prints the refusal and no figure.
+// stands past the first kilobyte, with what opening took; with another password it prints the refusal and no figure.
 // tools/make_late_calibre.py makes the data and what is expected.
 use libc::STDOUT_FILENO;
 use samples::number;
@@ -59,12 +59,28 @@ fn tell_angle(angle: Angle) {
     }
 }
 
-// Opens a sheet and writes the last calibre's lift angle, or the refusal.
+// Writes what opening took.
+fn tell_counts(report: excel97::Report) {
+    io::write_all(STDOUT_FILENO, b"; ");
+    io::print_decimal(STDOUT_FILENO, report.output_bytes as u64);
+    io::write_all(STDOUT_FILENO, b" bytes, ");
+    io::print_decimal(STDOUT_FILENO, report.records as u64);
+    io::write_all(STDOUT_FILENO, b" records, ");
+    io::print_decimal(STDOUT_FILENO, report.enciphered_body_bytes as u64);
+    io::write_all(STDOUT_FILENO, b" bytes enciphered, ");
+    io::print_decimal(STDOUT_FILENO, report.block_keys as u64);
+    io::write_all(STDOUT_FILENO, b" block keys");
+}
+
+// Opens a sheet and writes the last calibre's lift angle with what opening took, or the refusal.
 fn measure(password: &[u8], stream: &[u8]) {
     let mut scratch = [0u8; 2064];
     let mut output = [0u8; 4096];
     match excel97::open(stream, password, &mut scratch, &mut output) {
-        excel97::Answer::Opened(_) => tell_angle(last_angle(part(&output, 0, stream.len()))),
+        excel97::Answer::Opened(report) => {
+            tell_angle(last_angle(part(&output, 0, stream.len())));
+            tell_counts(report);
+        }
         excel97::Answer::Refused(refusal) => {
             io::write_all(STDOUT_FILENO, b"refused, ");
             io::print_decimal(STDOUT_FILENO, file_params::number(refusal) as u64);

@@ -1,5 +1,6 @@
-// Looks at the streams in its data, compares the lock of each with the one before, and opens them, through the C exports;
-// prints for each the answers, what is left of the scratch, and the output. tools/make_short_books.py makes the data and what is expected.
+// Looks at the streams in its data, compares the lock of each with the one before, tells what opening will take, and opens
+// them, through the C exports; prints for each the answers, what is left of the scratch, and the output.
+// tools/make_short_books.py makes the data and what is expected.
 use libc::STDOUT_FILENO;
 use samples::lent_byte;
 use samples::number;
@@ -107,7 +108,8 @@ fn tell_same(same: bool) {
     count(if same { 1 } else { 0 });
 }
 
-// Looks at a stream, compares its lock with that of the one before, and opens it, with what is lent.
+// Looks at a stream, compares its lock with that of the one before, tells what opening will take, and opens it, with what
+// is lent.
 fn run_lent(
     name: &[u8],
     password: &[u8],
@@ -117,13 +119,16 @@ fn run_lent(
     output: &mut [u8],
 ) {
     let mut seen = [0u64; 8];
+    let mut foretold = [0u64; 8];
     let mut told = [0u64; 8];
     let verdict = sheet::sheet_look(stream, &mut seen);
+    let forecast = sheet::sheet_forecast(stream, &mut foretold);
     let answer = sheet::sheet_open(stream, password, scratch, output, &mut told);
     word(name);
     tell(b" look ", verdict, &seen, 5);
     tell_same(sheet::sheet_same_lock(before, stream));
-    tell(b" open ", answer, &told, 4);
+    tell(b" forecast ", forecast, &foretold, 4);
+    tell(b" open ", answer, &told, 7);
     tell_scratch(scratch);
     tell_output(output);
 }
