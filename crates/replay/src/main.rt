@@ -1,7 +1,7 @@
 // Runs a sample of the Rust source's own answers through the C exports: Look's verdict, Open's answer and every byte of
-// the plain stream, with the scratch and the rest of the output as they must be left. Prints how many cases had each outcome,
-// in how many Look's key size is judged by MS-OFFCRYPTO 2.3.5.1 and not by the Rust, and how many differ. oracle/README.md
-// says how the sample is made.
+// the plain stream, with the scratch and the rest of the output as they must be left; and the forecast of each stream. Prints
+// how many cases had each outcome, in how many Look's key size is judged by MS-OFFCRYPTO 2.3.5.1 and not by the Rust, how many
+// forecasts are no refusal, and how many cases differ. oracle/README.md says how the sample is made.
 use libc::STDOUT_FILENO;
 use samples::lent_byte;
 use samples::number;
@@ -23,19 +23,23 @@ struct Ran {
     same: bool,
 }
 
+// What came of a forecast: whether it is no refusal, and whether it is as it must be.
+struct Foretold {
+    told: bool,
+    same: bool,
+}
+
 // The first byte, or 255 where there is none.
 fn first_of(bytes: &[u8]) -> u8 {
     if 0 < bytes.len() { bytes[0] } else { 255 }
 }
 
-// Whether the first of some facts are those wanted, numbers of eight bytes.
+// Whether the first of some facts are those wanted, numbers of eight bytes, and the others 0.
 fn facts_same(told: &[u64; 8], want: &[u8]) -> bool {
     let mut same = true;
     let mut i = 0;
     while i < 8 {
-        if 8 * i < want.len() {
-            same = same & (told[i] == number(want, 8 * i) as u64) & (number(want, 8 * i + 4) == 0);
-        }
+        same = same & (told[i] == number(want, 8 * i) as u64) & (number(want, 8 * i + 4) == 0);
         i += 1;
     }
     same
@@ -53,11 +57,9 @@ fn look_same(verdict: u32, seen: &[u64; 8], want: &[u8]) -> bool {
     if bits == 0 {
         return same & facts_same(seen, part(want, 1, 40));
     }
-    same
-        & facts_same(seen, part(want, 1, 32))
-        & (number(want, 33) == 0)
-        & (number(want, 37) == 0)
-        & (seen[4] == bits as u64)
+    let mut rest = *seen;
+    rest[4] = 0;
+    same & facts_same(&rest, part(want, 1, 40)) & (seen[4] == bits as u64)
 }
 
 // Whether the first bytes of a buffer are zero.
@@ -93,8 +95,19 @@ fn output_same(output: &[u8], answer: u32, plain: &[u8]) -> bool {
     }
 }
 
+// Forecasts what opening a stream will take.
+fn foretell(stream: &[u8], want: &[u8]) -> Foretold {
+    let mut facts = [0u64; 8];
+    let answer = sheet::sheet_forecast(stream, &mut facts);
+    Foretold {
+        told: answer == 0,
+        same: (answer == first_of(part(want, 42, 1)) as u32)
+            & facts_same(&facts, part(want, 43, 32)),
+    }
+}
+
 // Runs a case with what is lent. What is wanted: the verdict's number, five facts, the key size in place of the last of them
-// or 0, the answer's number, four facts, and the plain stream where there is one.
+// or 0, the forecast's number, four facts, the answer's number, seven facts, and the plain stream where there is one.
 fn run_lent(
     password: &[u8],
     stream: &[u8],
@@ -107,9 +120,9 @@ fn run_lent(
     let verdict = sheet::sheet_look(stream, &mut seen);
     let answer = sheet::sheet_open(stream, password, scratch, output, &mut told);
     let looked = look_same(verdict, &seen, want);
-    let opened = (answer as usize == number(want, 42)) & facts_same(&told, part(want, 46, 32));
+    let opened = (answer as usize == number(want, 75)) & facts_same(&told, part(want, 79, 56));
     let wiped = zeros(scratch, 2064) & as_lent(scratch, 2064);
-    let written = output_same(output, answer, part(want, 78, stream.len()));
+    let written = output_same(output, answer, part(want, 135, stream.len()));
     Ran {
         answer,
         by_standard: instead(want) != 0,
@@ -126,13 +139,27 @@ fn run(password: &[u8], stream: &[u8], want: &[u8]) -> Ran {
     run_lent(password, stream, want, &mut scratch, &mut output)
 }
 
-// How many cases had each outcome, 0 for a stream that opens and else the refusal's number; behind them, how many differ, and
-// in how many Look's key size is judged by the standard.
-const KINDS: usize = 30;
+// How many cases had each outcome, 0 for a stream that opens and else the refusal's number; behind them, how many differ, in
+// how many Look's key size is judged by the standard, and in how many the forecast is no refusal.
+const KINDS: usize = 31;
 
 fn counted(counts: &mut [u64; KINDS], k: usize) {
-    if k < 30 {
+    if k < 31 {
         counts[k] = std::num::wrapping_add_u64(counts[k], 1);
+    }
+}
+
+// Counts what came of a case.
+fn count_case(counts: &mut [u64; KINDS], ran: Ran, foretold: Foretold) {
+    counted(counts, ran.answer as usize);
+    if !(ran.same & foretold.same) {
+        counted(counts, 28);
+    }
+    if ran.by_standard {
+        counted(counts, 29);
+    }
+    if foretold.told {
+        counted(counts, 30);
     }
 }
 
@@ -142,20 +169,15 @@ fn run_all(data: &[u8], counts: &mut [u64; KINDS]) {
     while at < data.len() {
         let password = number(data, at);
         let stream = number(data, at + 4 + password);
-        let want = number(data, at + 8 + password + stream);
-        let ran = run(
-            part(data, at + 4, password),
-            part(data, at + 8 + password, stream),
-            part(data, at + 12 + password + stream, want),
-        );
-        counted(counts, ran.answer as usize);
-        if !ran.same {
-            counted(counts, 28);
-        }
-        if ran.by_standard {
-            counted(counts, 29);
-        }
-        at = at + 12 + password + stream + want;
+        let start = at + 8 + password;
+        let want = number(data, start + stream);
+        let behind = start + stream + 4;
+        let its_stream = part(data, start, stream);
+        let its_want = part(data, behind, want);
+        let ran = run(part(data, at + 4, password), its_stream, its_want);
+        let foretold = foretell(its_stream, its_want);
+        count_case(counts, ran, foretold);
+        at = behind + want;
     }
 }
 
@@ -171,6 +193,7 @@ fn main() {
     run_file(b"cases_1", &mut counts);
     run_file(b"cases_2", &mut counts);
     run_file(b"cases_3", &mut counts);
+    run_file(b"cases_4", &mut counts);
     let mut k = 0;
     while k < 28 {
         io::print_decimal(STDOUT_FILENO, k as u64);
@@ -181,6 +204,8 @@ fn main() {
     }
     io::write_all(STDOUT_FILENO, b"key size 0 as 40\t");
     io::print_decimal(STDOUT_FILENO, counts[29]);
+    io::write_all(STDOUT_FILENO, b"\nforecasts that tell\t");
+    io::print_decimal(STDOUT_FILENO, counts[30]);
     io::write_all(STDOUT_FILENO, b"\n");
     io::print_decimal(STDOUT_FILENO, counts[28]);
     io::write_all(STDOUT_FILENO, b" differ\n");

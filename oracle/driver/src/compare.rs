@@ -30,6 +30,8 @@ pub struct Compare {
     /// How many of the looks are judged by MS-OFFCRYPTO 2.3.5.1 and not by the Rust.
     by_standard: u64,
     pairs: [u64; 2],
+    /// How many forecasts tell the counts, and how many refuse.
+    forecasts: [u64; 2],
     numbers: BTreeMap<u32, u64>,
     /// By lock, key bits and whether the summary is sealed.
     opened: BTreeMap<[u64; 3], u64>,
@@ -61,7 +63,7 @@ impl Compare {
         if let Ok(answer) = answer {
             *self.numbers.entry(answer.number).or_default() += 1;
             if answer.number == 0 {
-                let [_, lock, key_bits, sealed] = answer.facts;
+                let [_, lock, key_bits, sealed, ..] = answer.facts;
                 *self.opened.entry([lock, key_bits, sealed]).or_default() += 1;
                 self.sealed_from_plain += u64::from(case.plain.is_some());
             }
@@ -104,6 +106,14 @@ impl Compare {
             Err(text) => faults.push(format!("open: the oracle gives {text}, which has no number")),
             Ok(answer) => self.compare_opens(case, answer, faults),
         }
+        // where what is lent is refused, the oracle is asked still: the forecast is lent nothing
+        let alone = match &answer {
+            Ok(answer) if (1..=5).contains(&answer.number) => oracle::open(&container, stream, password),
+            _ => answer.clone(),
+        };
+        if let Ok(alone) = alone {
+            self.compare_forecasts(stream, &alone, faults);
+        }
         (look, answer)
     }
 
@@ -126,6 +136,15 @@ impl Compare {
         }
     }
 
+    fn compare_forecasts(&mut self, stream: &[u8], answer: &Answer, faults: &mut Vec<String>) {
+        let theirs = paper::forecast(stream, answer.number, [answer.facts[0], answer.facts[1]]);
+        let ours = port::forecast(stream);
+        if ours != theirs {
+            faults.push(format!("forecast: port {ours:?}, oracle {theirs:?}"));
+        }
+        self.forecasts[usize::from(theirs.0 != 0)] += 1;
+    }
+
     fn compare_opens(&mut self, case: &Case, answer: &Answer, faults: &mut Vec<String>) {
         // a byte that changes from case to case, and is not 0
         let mark = (case.index % 255) as u8 + 1;
@@ -136,7 +155,7 @@ impl Compare {
         let (scratch, output) = (&mut self.scratch[..case.scratch_len], &mut self.output[..case.output_len]);
         let (number, facts) = port::open(&case.stream, &case.password, scratch, output);
 
-        if number != answer.number || facts[..4] != answer.facts || facts[4..] != [0; 4] {
+        if number != answer.number || facts[..7] != answer.facts || facts[7] != 0 {
             faults.push(format!("open: port {number} {facts:?}, oracle {} {:?}", answer.number, answer.facts));
         }
         let (plain, rest) = self.output.split_at(answer.plain.len());
@@ -205,6 +224,7 @@ impl Compare {
         println!("look\tunknown {}, no {}, yes {}", self.looks[0], self.looks[1], self.looks[2]);
         println!("of them judged by MS-OFFCRYPTO 2.3.5.1, key size 0 as 40\t{}", self.by_standard);
         println!("same lock\tno {}, yes {}", self.pairs[0], self.pairs[1]);
+        println!("forecast\ttold {}, refused {}", self.forecasts[0], self.forecasts[1]);
         println!("number\tcases");
         for (number, count) in &self.numbers {
             println!("{number}\t{count}");
@@ -235,7 +255,7 @@ impl Compare {
         self.differences == 0 && never.is_empty()
     }
 
-    /// Of what can occur in a run: questions 1 to 3 and 5 to 27, every lock with each of its key sizes, and a key size of 0 in Look.
+    /// Of what can occur in a run: questions 1 to 3 and 5 to 27, every lock with each of its key sizes, a key size of 0 in Look, and forecasts of both kinds.
     fn never(&self) -> Vec<String> {
         let numbers = (0..=27).filter(|number| *number != 4 && !self.numbers.contains_key(number)).map(|number| number.to_string());
         let mut reports = vec![[0, 0, 0], [1, 40, 0]];
@@ -244,7 +264,8 @@ impl Compare {
         }
         let reports = reports.iter().filter(|report| !self.opened.contains_key(*report)).map(|report| format!("opened {report:?}"));
         let by_standard = (self.by_standard == 0).then(|| "look at a key size of 0".to_string());
-        numbers.chain(reports).chain(by_standard).collect()
+        let forecasts = self.forecasts.contains(&0).then(|| "a forecast that tells, or one that refuses".to_string());
+        numbers.chain(reports).chain(by_standard).chain(forecasts).collect()
     }
 }
 

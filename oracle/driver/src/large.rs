@@ -2,7 +2,7 @@
 
 use crate::lock::{filepass, put_record, CryptoApi, Lock};
 use crate::oracle;
-use crate::paper::{BOF, FILEPASS};
+use crate::paper::{self, BOF, FILEPASS};
 use crate::port::{self, SCRATCH_LEN, STREAM_MAX_LEN};
 use crate::random::Random;
 use reference::Container;
@@ -53,19 +53,20 @@ pub fn large() -> bool {
         let mut scratch = vec![0x5A; SCRATCH_LEN];
         let mut output = vec![0x5A; STREAM_MAX_LEN];
         let (port, (number, facts)) = seconds(|| port::open(&stream, PASSWORD.as_bytes(), &mut scratch, &mut output));
-        let same = answer.number == 0 && number == 0 && facts[..4] == answer.facts && facts[4..] == [0; 4] && output == answer.plain;
+        let same = answer.number == 0 && number == 0 && facts[..7] == answer.facts && facts[7] == 0 && output == answer.plain;
+        let foretold = port::forecast(&stream) == paper::forecast(&stream, 0, [0; 2]);
         let wiped = scratch.iter().all(|byte| *byte == 0);
-        sound &= same && wiped;
+        sound &= same && foretold && wiped;
         println!(
             "{name}\t{} bytes\t{} records\t{}\tport {port:.2} s\tRust {rust:.2} s",
             stream.len(),
             answer.facts[0],
-            if same && wiped { "same" } else { "DIFFERENT" }
+            if same && foretold && wiped { "same" } else { "DIFFERENT" }
         );
         drop(answer);
         stream.push(0);
         let (number, facts) = port::open(&stream, PASSWORD.as_bytes(), &mut scratch, &mut output);
-        sound &= (number, facts) == (4, [0; 8]);
+        sound &= (number, facts) == (4, [0; 8]) && port::forecast(&stream) == (4, [0; 8]);
         println!("{name}\t{} bytes\tport {number}", stream.len());
     }
     sound

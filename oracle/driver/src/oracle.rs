@@ -14,13 +14,13 @@ const SUMMARY: &str = "/encryption";
 #[derive(Clone, PartialEq, Eq)]
 pub struct Answer {
     pub number: u32,
-    pub facts: [u64; 4],
+    pub facts: [u64; 7],
     pub plain: Vec<u8>,
 }
 
 impl Answer {
     pub fn refusal(number: u32, details: [u64; 2]) -> Self {
-        Self { number, facts: [details[0], details[1], 0, 0], plain: Vec::new() }
+        Self { number, facts: [details[0], details[1], 0, 0, 0, 0, 0], plain: Vec::new() }
     }
 }
 
@@ -64,8 +64,9 @@ pub fn answer(result: Result<(), Error>, mut container: Container, stream: &[u8]
     }
     let plain = container.read(WORKBOOK).map_err(|error| format!("{error:?}"))?;
     let [count, lock, key_bits] = paper::report(stream).ok_or("opened, but no lock is stated")?;
+    let [bytes, _, enciphered, keys] = paper::counts(stream).ok_or("opened, but no lock is stated")?;
     let sealed = !container.exists(SUMMARY);
-    Ok(Answer { number: 0, facts: [count, lock, key_bits, sealed.into()], plain })
+    Ok(Answer { number: 0, facts: [count, lock, key_bits, sealed.into(), bytes, enciphered, keys], plain })
 }
 
 fn guarded<T>(call: impl FnOnce() -> T) -> Result<T, String> {

@@ -1,5 +1,5 @@
 //! What document 01's words say of a stream where the Rust gives no value: the number of records, the lock and its key bits,
-//! the flags of questions 18 to 20, and questions 1 to 5. And what document 02's words say where the Rust says otherwise.
+//! the flags of questions 18 to 20, and questions 1 to 5. And what document 02's words say where the Rust says otherwise, or nothing: what opening takes.
 
 use crate::port::{PASSWORD_MAX_LEN, SCRATCH_LEN, STREAM_MAX_LEN};
 
@@ -100,6 +100,32 @@ pub fn report(stream: &[u8]) -> Option<[u64; 3]> {
     }
     let stated = u32_at(body, 30)?;
     Some([count, 2, if stated == 0 { 40 } else { stated.into() }])
+}
+
+/// The bytes of a block that has a key of its own.
+const BLOCK: usize = 1024;
+
+/// What opening a stream takes that no question refuses: output bytes, records, enciphered body bytes and block keys (document 02, T-04).
+pub fn counts(stream: &[u8]) -> Option<[u64; 4]> {
+    let (mut count, mut enciphered) = (0, 0);
+    for record in records(stream) {
+        count += 1;
+        enciphered += record.end - record.start - record.clear();
+    }
+    let under_xor = u16_at(filepass(stream)?, 0)? == 0;
+    let keys = if under_xor { 0 } else { 1 + stream.len().div_ceil(BLOCK) };
+    Some([stream.len() as u64, count, enciphered as u64, keys as u64])
+}
+
+/// The number of the forecast and its facts, of a stream that Open answers so when it is lent enough.
+pub fn forecast(stream: &[u8], number: u32, details: [u64; 2]) -> (u32, [u64; 8]) {
+    let mut facts = [0; 8];
+    if let 0 | 27 = number {
+        facts[..4].copy_from_slice(&counts(stream).expect("it has a lock"));
+        return (0, facts);
+    }
+    facts[..2].copy_from_slice(&details);
+    (number, facts)
 }
 
 /// Questions 1 to 5, on what is lent: the first that is answered "no".

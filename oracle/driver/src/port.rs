@@ -1,4 +1,4 @@
-//! The port: the three functions of include/sheet.h.
+//! The port: four functions of include/sheet.h.
 
 /// The scratch that Open asks for.
 pub const SCRATCH_LEN: usize = 2064;
@@ -9,6 +9,7 @@ pub const STREAM_MAX_LEN: usize = 1 << 30;
 extern "C" {
     fn sheet_look(stream: *const u8, stream_len: usize, facts: *mut u64) -> u32;
     fn sheet_same_lock(a: *const u8, a_len: usize, b: *const u8, b_len: usize) -> u8;
+    fn sheet_forecast(stream: *const u8, stream_len: usize, facts: *mut u64) -> u32;
     fn sheet_open(
         stream: *const u8,
         stream_len: usize,
@@ -34,6 +35,12 @@ pub fn look(stream: &[u8]) -> (u32, [u64; 8]) {
 /// The answer as the byte that is returned: 0 or 1.
 pub fn same_lock(a: &[u8], b: &[u8]) -> u8 {
     unsafe { sheet_same_lock(a.as_ptr(), a.len(), b.as_ptr(), b.len()) }
+}
+
+pub fn forecast(stream: &[u8]) -> (u32, [u64; 8]) {
+    let mut facts = UNWRITTEN;
+    let number = unsafe { sheet_forecast(stream.as_ptr(), stream.len(), facts.as_mut_ptr()) };
+    (number, facts)
 }
 
 pub fn open(stream: &[u8], password: &[u8], scratch: &mut [u8], output: &mut [u8]) -> (u32, [u64; 8]) {

@@ -51,6 +51,9 @@ fn add(case: Case, quota: usize, seen: &mut BTreeSet<(Vec<u8>, Vec<u8>)>, filled
     let mut expected = vec![look as u8];
     expected.extend(look_facts.iter().flat_map(|fact| fact.to_le_bytes()));
     expected.push(paper::instead(&case.stream, (look, look_facts)).unwrap_or(0) as u8);
+    let (forecast, foretold) = paper::forecast(&case.stream, answer.number, [answer.facts[0], answer.facts[1]]);
+    expected.push(forecast as u8);
+    expected.extend(foretold[..4].iter().flat_map(|fact| fact.to_le_bytes()));
     expected.extend(answer.number.to_le_bytes());
     expected.extend(answer.facts.iter().flat_map(|fact| fact.to_le_bytes()));
     expected.extend(&answer.plain);
