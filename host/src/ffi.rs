@@ -23,6 +23,8 @@ extern "C" {
         facts: *mut [u64; 8],
     ) -> u32;
 
+    pub fn sheet_forecast(stream: *const u8, stream_len: usize, facts: *mut [u64; 8]) -> u32;
+
     pub fn sheet_open(
         stream: *const u8,
         stream_len: usize,

@@ -1,4 +1,5 @@
-//! Protected Excel 97-2003 workbook streams: looking, opening, and the directory of sheets.
+//! Protected Excel 97-2003 workbook streams: looking, the directory of sheets, forecasting what
+//! opening takes, and opening.
 //!
 //! A safe wrapper over `libsheet.a`, whose functions are proved to end, to do nothing undefined and
 //! to answer what the standards' definitions say. `include/sheet.h` is its C interface; the command
@@ -6,8 +7,8 @@
 //!
 //! The stream is the Workbook stream of an `.xls` file, taken out of its compound file (`gsf cat
 //! book.xls Workbook > book.bin`). [`look`] tells whether it is locked, [`same_lock`] whether two
-//! are locked alike, [`records`] lists its records, [`directory`] tells where its sheets start, and
-//! [`open`] gives the plain stream:
+//! are locked alike, [`records`] lists its records, [`directory`] tells where its sheets start,
+//! [`forecast`] tells what opening it will take, and [`open`] gives the plain stream:
 //!
 //! ```
 //! # fn main() -> Result<(), Box<dyn std::error::Error>> {
@@ -40,6 +41,7 @@ compile_error!("libsheet.a is for x86-64");
 
 mod directory;
 mod ffi;
+mod forecast;
 mod open;
 mod records;
 mod refusal;
@@ -47,6 +49,7 @@ mod secret;
 mod verdict;
 
 pub use directory::{directory, Directory};
+pub use forecast::{forecast, Forecast};
 pub use open::{open, Lock, Report, PASSWORD_MAX_LEN, SCRATCH_LEN, STREAM_MAX_LEN};
 pub use records::{records, Fault, Record, Records};
 pub use refusal::{Refusal, REFUSALS};

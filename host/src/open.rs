@@ -17,7 +17,7 @@ pub const PASSWORD_MAX_LEN: usize = 1024;
 /// The most bytes of a stream: 1 GiB.
 pub const STREAM_MAX_LEN: usize = 1 << 30;
 
-/// The stack that is overwritten after a call, in bytes. A call was measured to use 3,024.
+/// The stack that is overwritten after a call, in bytes. A call was measured to use 3,360.
 const SCRUBBED_LEN: usize = 16 * 1024;
 
 /// The lock of a workbook.
@@ -42,6 +42,8 @@ impl fmt::Display for Lock {
 }
 
 /// What is told of a stream that was opened.
+///
+/// The records and the last three are what [`forecast`](crate::forecast()) tells beforehand.
 #[derive(Clone, Copy, Debug, PartialEq, Eq)]
 pub struct Report {
     /// How many records the stream has.
@@ -52,6 +54,14 @@ pub struct Report {
     pub key_bits: u32,
     /// Whether the document summary, which stands outside the stream, is enciphered too.
     pub summary_sealed: bool,
+    /// How many bytes of output were written: the stream's length.
+    pub output_bytes: usize,
+    /// How many bytes of the records' bodies were deciphered: the lengths of the bodies less their
+    /// clear parts.
+    pub enciphered_body_bytes: usize,
+    /// How many block keys were derived: none under XOR; under RC4 one for the check of the password,
+    /// and one for each started 1,024 bytes of the stream.
+    pub block_keys: usize,
 }
 
 /// Opens a locked workbook stream.
@@ -101,7 +111,7 @@ pub fn open(
     let mut facts = [0; 8];
     let number = call(stream, password, scratch, output, &mut facts);
     scrub();
-    let [first, second, key_bits, sealed, ..] = facts;
+    let [first, second, key_bits, sealed, output_bytes, enciphered, keys, _] = facts;
     if number != 0 {
         return Err(Refusal::new(number, [first, second]));
     }
@@ -116,6 +126,10 @@ pub fn open(
         // At most 128.
         key_bits: key_bits as u32,
         summary_sealed: sealed == 1,
+        // None of the three is more than the stream has bytes.
+        output_bytes: output_bytes as usize,
+        enciphered_body_bytes: enciphered as usize,
+        block_keys: keys as usize,
     })
 }
 

@@ -1,5 +1,6 @@
 //! Every function through the wrapper, on buffers of every length around each limit, with guard
-//! bytes around each buffer. The directory has its own tests, in directory.rs.
+//! bytes around each buffer. The directory and the forecast have their own tests, in directory.rs and
+//! forecast.rs.
 
 mod common;
 
@@ -80,7 +81,7 @@ fn every_lock_opens() {
         for book in [Book::small(kind), Book::long(kind)] {
             let mut lent = Lent::enough(&book.locked, book.password.as_bytes());
             let report = lent.open_to(&book.plain);
-            assert_eq!(report, kind.report(book.headers.len()));
+            assert_eq!(report, book.report_in(book.locked.len()));
         }
     }
 }
@@ -231,7 +232,7 @@ fn a_book_cut_at_every_length_is_opened_as_far_as_it_goes() {
                 assert_eq!(lent.open(), refused(8, [0, 0]), "{kind:?} {len}");
             } else {
                 let report = lent.open_to(&book.plain[..len]);
-                assert_eq!(report, kind.report(book.records_in(len)), "{kind:?} {len}");
+                assert_eq!(report, book.report_in(len), "{kind:?} {len}");
             }
         }
     }
@@ -249,16 +250,7 @@ fn a_lock_cut_at_every_length_is_refused() {
                 body[..len].to_vec(),
             ]
             .concat();
-            let have = |before: usize| (len - before) as u64;
-            let expected = match kind {
-                _ if len < 2 => (10, [have(0), 2]),
-                Kind::Xor => (10, [have(2), 4]),
-                _ if len < 6 => (12, [have(2), 4]),
-                Kind::Office97 => (14, [have(2), 52]),
-                _ if len < 14 => (15, [have(2), 12]),
-                _ if len < 14 + 48 => (17, [48, have(2)]),
-                _ => (24, [have(14 + 48), 60]),
-            };
+            let expected = kind.cut_at(len);
             let answer = Lent::enough(&stream, book.password.as_bytes()).open();
             assert_eq!(answer, refused(expected.0, expected.1), "{kind:?} {len}");
         }

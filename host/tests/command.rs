@@ -7,7 +7,7 @@ use std::io::Read;
 use std::os::unix::fs::{symlink, PermissionsExt};
 use std::process::Stdio;
 
-use common::bench::{Bench, Ran, PASSWORD, REPORT};
+use common::bench::{Bench, Ran, FORECAST, PASSWORD, REPORT};
 use common::book::{Book, Kind, BOF, FILEPASS, KINDS};
 use common::process::{run, Process};
 
@@ -172,6 +172,99 @@ fn directory_refuses_by_number() {
 }
 
 #[test]
+fn forecast_tells_what_opening_takes() {
+    let bench = Bench::new();
+    let before = bench.read("calibres.bin");
+    for ran in [
+        bench.run("forecast calibres.bin"),
+        bench.run_on("forecast -", bench.file("calibres.bin")),
+        // A password is no concern of it.
+        bench.run_with("forecast calibres.bin", "another"),
+    ] {
+        let told = (ran.status, &ran.out[..], &ran.err[..]);
+        assert_eq!(told, (Some(0), FORECAST, ""));
+    }
+    assert!(bench.read("calibres.bin") == before);
+    for kind in KINDS {
+        for book in [Book::small(kind), Book::long(kind)] {
+            bench.write("book", &book.locked);
+            let told = book.forecast_in(book.locked.len());
+            let lines = [
+                format!("output bytes\t{}", told.output_bytes),
+                format!("records\t{}", told.records),
+                format!("enciphered body bytes\t{}", told.enciphered_body_bytes),
+                format!("block keys\t{}", told.block_keys),
+            ];
+            for ran in [
+                bench.run("forecast book"),
+                bench.run_on("forecast -", bench.file("book")),
+            ] {
+                assert_eq!((ran.status, &ran.err[..]), (Some(0), ""));
+                assert_eq!(ran.out, lines.join("\n") + "\n");
+            }
+            // The same lines stand in the report.
+            let ran = bench.run_with("open book -o plain", book.password);
+            assert_eq!((ran.status, &ran.err[..]), (Some(0), ""));
+            for line in &lines {
+                assert_eq!(ran.out.lines().filter(|told| told == line).count(), 1);
+            }
+        }
+    }
+    bench.has_only(&["book", "plain"]);
+}
+
+#[test]
+fn forecast_refuses_by_number() {
+    let bench = Bench::new();
+    let locked = bench.read("calibres.bin");
+    let protected = [(BOF, vec![]), (0x0086, vec![]), (FILEPASS, vec![])];
+    // The key size of the sample's lock.
+    let mut odd = locked.clone();
+    odd[54] = 44;
+    for (stream, words) in [
+        (
+            locked[..3433].to_vec(),
+            "refused, 6: a record can't be read, its header or its body is cut off, at offset 3431; ",
+        ),
+        (
+            Vec::new(),
+            "refused, 7: the stream does not start with a BOF record; this is not a workbook ",
+        ),
+        (
+            bench.plain(),
+            "refused, 8: there is no FILEPASS record, so the workbook is not locked; there is \
+             nothing to open: use the stream as it is\n",
+        ),
+        (
+            Book::new(Kind::Xor, "A", &protected).locked,
+            "refused, 9: another record stands before FILEPASS than the format admits: \
+             WriteProtect, id 0086; ",
+        ),
+        (
+            odd,
+            "refused, 23: the CryptoAPI lock's key size is not 0, nor 40 to 128 bits in steps of \
+             8: it says 44; ",
+        ),
+    ] {
+        bench.write("book", &stream);
+        let ran = bench.run("forecast book");
+        ran.failed(1, &["\nsheet: what opening book will take was not told\n"]);
+        assert!(ran.err.starts_with(words), "{}", ran.err);
+        assert_eq!(ran.err.lines().count(), 2);
+        // An opening is refused in the same words.
+        let opened = bench.run_with("open book -o plain", PASSWORD);
+        opened.failed(1, &["\nsheet: book was not opened, and nothing was written\n"]);
+        assert_eq!(opened.err.lines().next(), ran.err.lines().next());
+    }
+    let ran = bench.run_on("forecast -", bench.file("book"));
+    ran.failed(
+        1,
+        &["\nsheet: what opening standard input will take was not told\n"],
+    );
+    bench.has_only(&["book"]);
+}
+
+#[test]
 fn open_writes_the_plain_stream() {
     let bench = Bench::new();
     let ran = bench.run("open calibres.bin -o plain --password-file calibres.password");
@@ -217,11 +310,17 @@ fn open_reports_every_lock() {
         let book = Book::long(kind);
         bench.write("book", &book.locked);
         let ran = bench.run_with("open book -o plain", book.password);
-        let report = kind.report(book.headers.len());
+        let report = book.report_in(book.locked.len());
         let sealed = if report.summary_sealed { "yes" } else { "no" };
         let expected = format!(
-            "records\t{}\nlock\t{}\nkey size\t{}\nsummary sealed\t{sealed}\n",
-            report.records, report.lock, report.key_bits
+            "records\t{}\nlock\t{}\nkey size\t{}\nsummary sealed\t{sealed}\noutput bytes\t{}\n\
+             enciphered body bytes\t{}\nblock keys\t{}\n",
+            report.records,
+            report.lock,
+            report.key_bits,
+            report.output_bytes,
+            report.enciphered_body_bytes,
+            report.block_keys
         );
         assert_eq!((ran.status, ran.out, &ran.err[..]), (Some(0), expected, ""));
         assert!(bench.read("plain") == book.plain);
@@ -335,7 +434,7 @@ fn no_terminal_and_no_password() {
 fn files_that_can_t_be_read() {
     let bench = Bench::new();
     fs::create_dir(bench.folder.join("drawer")).unwrap();
-    for command in ["look", "list", "directory", "open -o plain"] {
+    for command in ["look", "list", "directory", "forecast", "open -o plain"] {
         bench
             .run_with(&format!("{command} drawer"), PASSWORD)
             .failed(2, &["sheet: drawer: ", "folder"]);
@@ -361,7 +460,7 @@ fn files_that_can_t_be_read() {
 fn compound_files_are_told_from_streams() {
     let bench = Bench::new();
     bench.write("book.xls", b"\xD0\xCF\x11\xE0\xA1\xB1\x1A\xE1 and more");
-    for command in ["look", "list", "directory", "open -o plain"] {
+    for command in ["look", "list", "directory", "forecast", "open -o plain"] {
         let ran = bench.run_with(&format!("{command} book.xls"), PASSWORD);
         ran.failed(
             2,
@@ -513,9 +612,13 @@ fn mistakes_in_the_arguments() {
     let bench = Bench::new();
     let password = "not taken as an argument";
     for (line, words) in [
-        ("", "look, list, directory, open or refusals"),
+        ("", "look, list, directory, forecast, open or refusals"),
         ("opne calibres.bin", "'opne'"),
         ("directory calibres.bin 0", "'0'"),
+        ("forecast", "name of a file"),
+        ("forecast calibres.bin other", "'other'"),
+        ("forecast calibres.bin -o plain", "neither -o"),
+        ("forecast calibres.bin --password Geheim", password),
         ("open calibres.bin", "-o"),
         ("open -o plain", "name of a file"),
         ("open calibres.bin -o plain --password Geheim", password),
@@ -534,13 +637,14 @@ fn mistakes_in_the_arguments() {
 #[test]
 fn help_and_version() {
     let bench = Bench::new();
-    for line in ["--help", "-h", "help", "open --help"] {
+    for line in ["--help", "-h", "help", "open --help", "forecast --help"] {
         let ran = bench.run(line);
         assert_eq!((ran.status, &ran.err[..]), (Some(0), ""));
         for words in [
             "sheet look FILE",
             "sheet list FILE",
             "sheet directory FILE",
+            "sheet forecast FILE",
             "sheet open FILE -o OUT",
             "sheet refusals",
             "--password-file",
@@ -549,6 +653,8 @@ fn help_and_version() {
             "history",
             "environment's own copy",
             "gsf cat book.xls Workbook > book.bin",
+            "enciphered body bytes",
+            "block keys",
             "EXIT STATUS",
         ] {
             assert!(ran.out.contains(words), "{words}");

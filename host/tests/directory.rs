@@ -2,6 +2,7 @@
 
 mod common;
 
+use common::bare::sheet_directory;
 use common::book::{entry, joined, Book, Kind, BOF, BOUND_SHEET, EOF, FILEPASS, KINDS};
 use common::guarded::Guarded;
 use sheet::{Directory, Refusal, STREAM_MAX_LEN};
@@ -11,15 +12,6 @@ const MEBIBYTE: usize = 1 << 20;
 
 /// A record that is neither an entry nor a bracket.
 const ROW: u16 = 0x0204;
-
-extern "C" {
-    fn sheet_directory(
-        stream: *const u8,
-        stream_len: usize,
-        place: usize,
-        facts: *mut [u64; 8],
-    ) -> u32;
-}
 
 /// The directory, asked for with guard bytes around the stream.
 #[track_caller]
@@ -468,11 +460,7 @@ fn expected(stream: &[u8], place: usize) -> Result<Directory, Refusal> {
 
 #[test]
 fn random_streams_are_answered_as_the_request_says() {
-    let mut state: u32 = 11;
-    let mut draw = |below: usize| {
-        state = state.wrapping_mul(1_664_525).wrapping_add(1_013_904_223);
-        (state >> 8) as usize % below
-    };
+    let mut draw = common::draws(11);
     // How often each came: sheets found, places without one, and the refusals.
     let mut counts = std::collections::BTreeMap::new();
     for _ in 0..40_000 {

@@ -1,4 +1,4 @@
-//! The C example and a smaller program, compiled as a C host would compile them, and run.
+//! The C example and two smaller programs, compiled as a C host would compile them, and run.
 
 mod common;
 
@@ -6,7 +6,7 @@ use std::fs::{self, File};
 use std::path::{Path, PathBuf};
 use std::process::{Command, Output, Stdio};
 
-use common::book::{Book, Kind};
+use common::book::{header, Book, Kind, BOF, FILEPASS};
 use common::folder::Folder;
 use common::process;
 
@@ -119,5 +119,48 @@ fn a_c_program_reads_the_directory() {
         }
         let len = book.locked.len() - 4;
         assert_eq!(told(&open, 0), format!("29: {len} 0 0 0 0 0 0 0"));
+    }
+}
+
+/// Prints the answer and all eight facts of the forecast for a stream from standard input.
+const FORECAST: &str = r#"
+#include <stdio.h>
+#include "sheet.h"
+
+static uint8_t stream[1 << 16];
+
+int main(void)
+{
+    uint64_t facts[8] = {9, 9, 9, 9, 9, 9, 9, 9};
+    size_t len = fread(stream, 1, sizeof stream, stdin);
+    printf("%u:", sheet_forecast(stream, len, facts));
+    for (int k = 0; k < 8; k++)
+        printf(" %llu", (unsigned long long)facts[k]);
+    return 0;
+}
+"#;
+
+#[test]
+fn a_c_program_reads_the_forecast() {
+    let folder = Folder::new();
+    let source = folder.write("forecast.c", FORECAST.as_bytes());
+    let sample = file("examples/calibres.bin");
+    let bytes = fs::read(&sample).unwrap();
+    let cut = folder.write("cut", &bytes[..100]);
+    // The first three bytes of a CryptoAPI lock, two of its type and one of its version.
+    let short = [header(BOF, 0), header(FILEPASS, 3), bytes[24..27].to_vec()];
+    let short = folder.write("short", &short.concat());
+    for level in ["-O0", "-O2"] {
+        let program = compile(&folder, &source, level);
+        for (stream, told) in [
+            (&sample, "0: 3435 186 2533 5 0 0 0 0"),
+            (&cut, "6: 20 0 0 0 0 0 0 0"),
+            (&short, "12: 1 4 0 0 0 0 0 0"),
+        ] {
+            let mut command = Command::new(&program);
+            let ran = process::run(command.stdin(File::open(stream).unwrap()));
+            assert_eq!((ran.status.code(), words(&ran.stderr)), (Some(0), ""));
+            assert_eq!(words(&ran.stdout), told);
+        }
     }
 }

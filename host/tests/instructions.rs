@@ -92,6 +92,7 @@ fn no_division_is_in_the_archive() {
         "sheet_same_lock",
         "sheet_record",
         "sheet_directory",
+        "sheet_forecast",
         "sheet_open",
     ] {
         let own = all.iter().filter(|(function, _)| function == export);

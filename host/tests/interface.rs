@@ -194,21 +194,21 @@ fn rust_functions(path: &str) -> Vec<Function> {
 fn header_rattle_and_rust_declare_the_same() {
     let rattle = rattle_functions();
     let names: Vec<&str> = rattle.iter().map(|function| &function.name[..]).collect();
-    let five = [
+    let six = [
         "sheet_look",
         "sheet_same_lock",
         "sheet_record",
         "sheet_directory",
+        "sheet_forecast",
         "sheet_open",
     ];
-    assert_eq!(names, five);
+    assert_eq!(names, six);
     assert_eq!(rattle[3].parameters.len(), 4);
-    assert_eq!(rattle[4].parameters.len(), 9);
+    assert_eq!(rattle[4].parameters.len(), 3);
+    assert_eq!(rattle[5].parameters.len(), 9);
     assert_eq!(header_functions(), rattle);
     assert_eq!(rust_functions("src/ffi.rs"), rattle);
-    // These tests call without the wrapper.
-    assert_eq!(rust_functions("tests/directory.rs")[..], rattle[3..4]);
-    assert_eq!(rust_functions("tests/machine_stack.rs")[..], rattle[4..]);
+    assert_eq!(rust_functions("tests/common/bare.rs")[..], rattle[3..]);
 }
 
 #[test]

@@ -36,7 +36,7 @@ fn a_file_above_a_gibibyte_is_not_read() {
     // A hole, which takes no room on the disk.
     let file = File::create(bench.folder.join("huge")).unwrap();
     file.set_len(sheet::STREAM_MAX_LEN as u64 + 1).unwrap();
-    for command in ["look", "list", "directory", "open -o plain"] {
+    for command in ["look", "list", "directory", "forecast", "open -o plain"] {
         let ran = bench.run_with(&format!("{command} huge"), PASSWORD);
         ran.failed(2, &["sheet: huge: ", "1 GiB"]);
     }
@@ -62,6 +62,7 @@ fn a_full_disk_is_told() {
         "look calibres.bin",
         "list calibres.bin",
         "directory calibres.bin",
+        "forecast calibres.bin",
         "refusals",
         "--help",
         "--version",
@@ -158,7 +159,11 @@ fn no_permission_is_told() {
 #[test]
 fn a_reader_that_has_enough_is_no_error_worth_words() {
     let bench = Bench::new();
-    for line in ["list calibres.bin", "directory calibres.bin"] {
+    for line in [
+        "list calibres.bin",
+        "directory calibres.bin",
+        "forecast calibres.bin",
+    ] {
         let mut command = bench.command(line);
         command.stdout(Stdio::piped()).stderr(Stdio::piped());
         let mut process = Process::start(&mut command);

@@ -10,6 +10,7 @@ mod common;
 use std::arch::asm;
 use std::thread;
 
+use common::bare::sheet_open;
 use common::book::{Book, Kind, BLOCK, KINDS};
 use common::rc4::Rc4;
 use common::{digest, utf16, xor};
@@ -95,20 +96,6 @@ macro_rules! copy_vectors {
             }
         }
     };
-}
-
-extern "C" {
-    fn sheet_open(
-        stream: *const u8,
-        stream_len: usize,
-        password: *const u8,
-        password_len: usize,
-        scratch: *mut u8,
-        scratch_len: usize,
-        output: *mut u8,
-        output_len: usize,
-        facts: *mut [u64; 8],
-    ) -> u32;
 }
 
 /// The call without the wrapper: nothing is scrubbed.

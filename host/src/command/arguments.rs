@@ -20,6 +20,9 @@ pub enum Order {
     Directory {
         file: OsString,
     },
+    Forecast {
+        file: OsString,
+    },
     Open {
         file: OsString,
         out: OsString,
@@ -55,16 +58,18 @@ pub fn parse(arguments: impl Iterator<Item = OsString>) -> Result<Order, Failure
     let mut rest = arguments;
     let Some(command) = rest.next() else {
         return Err(usage(
-            "say what to do: sheet look, list, directory, open or refusals",
+            "say what to do: sheet look, list, directory, forecast, open or refusals",
         ));
     };
     let given = match command.to_str() {
         Some("--help" | "-h" | "help") => return Ok(Order::Help),
         Some("--version" | "-V") => return Ok(Order::Version),
-        Some("look" | "list" | "directory" | "open" | "refusals") => Given::read(rest)?,
+        Some("look" | "list" | "directory" | "forecast" | "open" | "refusals") => {
+            Given::read(rest)?
+        }
         _ => {
             return Err(usage(&format!(
-                "there is no command '{}': look, list, directory, open and refusals are",
+                "there is no command '{}': look, list, directory, forecast, open and refusals are",
                 command.to_string_lossy()
             )))
         }
@@ -81,6 +86,9 @@ pub fn parse(arguments: impl Iterator<Item = OsString>) -> Result<Order, Failure
         }),
         Some("directory") => Ok(Order::Directory {
             file: given.only_file("directory")?,
+        }),
+        Some("forecast") => Ok(Order::Forecast {
+            file: given.only_file("forecast")?,
         }),
         Some("open") => given.open(),
         _ => match given.files.first() {
@@ -246,6 +254,9 @@ mod tests {
         let directory = |file: &str| Ok(Order::Directory { file: file.into() });
         assert_eq!(parsed("directory a"), directory("a"));
         assert_eq!(parsed("directory -"), directory("-"));
+        let forecast = |file: &str| Ok(Order::Forecast { file: file.into() });
+        assert_eq!(parsed("forecast a"), forecast("a"));
+        assert_eq!(parsed("forecast -"), forecast("-"));
         assert_eq!(parsed("refusals"), Ok(Order::Refusals));
         for line in [
             "--help",
@@ -254,6 +265,7 @@ mod tests {
             "open --help",
             "look -h",
             "directory --help",
+            "forecast --help",
             "refusals --help",
         ] {
             assert_eq!(parsed(line), Ok(Order::Help), "{line}");
@@ -279,9 +291,12 @@ mod tests {
     #[test]
     fn what_is_wrong_is_named() {
         for (line, word) in [
-            ("", "look, list, directory, open or refusals"),
+            ("", "look, list, directory, forecast, open or refusals"),
             ("opne a", "'opne'"),
-            ("opne a", "look, list, directory, open and refusals"),
+            (
+                "opne a",
+                "look, list, directory, forecast, open and refusals",
+            ),
             ("look", "name of a file"),
             ("look a b", "'b'"),
             ("look a -o b", "neither -o"),
@@ -289,6 +304,10 @@ mod tests {
             ("directory", "name of a file"),
             ("directory a 1", "'1'"),
             ("directory a -o b", "'sheet directory' takes neither -o"),
+            ("forecast", "'sheet forecast' needs the name of a file"),
+            ("forecast a b", "'b' is too much: 'sheet forecast'"),
+            ("forecast a -o b", "'sheet forecast' takes neither -o"),
+            ("forecast --password-file p a", "neither -o"),
             ("refusals 3", "'3'"),
             ("open a", "needs -o"),
             ("open a -o", "-o needs"),

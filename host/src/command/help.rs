@@ -7,6 +7,8 @@ sheet: looks at, lists and opens protected Excel 97-2003 workbooks
   sheet list FILE            lists its records
   sheet directory FILE       lists its sheets and where they start, which takes
                              no password
+  sheet forecast FILE        tells what opening it will take, which takes no
+                             password
   sheet open FILE -o OUT     opens it with its password, and writes the plain
                              stream to OUT
   sheet refusals             tells what each number of a refusal means, and
@@ -54,16 +56,22 @@ PRINTED, with a tab between the columns:
           place: of the sheet in the workbook, counted from 0; start: the
           offset of its BOF record in FILE. A FILE that is made to be slow can
           keep this busy for very long: ctrl-C ends it, nothing is written
+  forecast
+          output bytes: as many as FILE has; records: how many; enciphered body
+          bytes: of all records, without what is never enciphered; block keys:
+          how many are derived, 0 for XOR, or else one for the check of the
+          password and one for each 1,024 bytes of FILE that are begun
   open    records: how many; lock; key size in bits; summary sealed: whether
-          the document summary, outside of this stream, is enciphered too. If
-          OUT is - this goes to standard error
+          the document summary, outside of this stream, is enciphered too; and
+          output bytes, enciphered body bytes and block keys, as forecast tells
+          them. If OUT is - this goes to standard error
 
 EXIT STATUS
 
   0       done; for look, whatever the answer
-  1       open or directory was refused: standard error says 'refused, NUMBER:'
-          and why, and OUT is not written; or list found a record that can't be
-          read
+  1       open, directory or forecast was refused: standard error says
+          'refused, NUMBER:' and why, and OUT is not written; or list found a
+          record that can't be read
   2       the arguments, the input or the output are at fault: standard error
           says which, and what to try
 

@@ -17,7 +17,7 @@ use arguments::{Order, PasswordFrom};
 use failure::Failure;
 use input::Input;
 use output::Output;
-use sheet::{Lock, Refusal, Report, Verdict};
+use sheet::{Forecast, Lock, Refusal, Report, Verdict};
 
 /// The id of a BoundSheet8 record, a sheet's entry: its body begins with the sheet's start.
 const BOUND_SHEET: u16 = 0x0085;
@@ -43,6 +43,7 @@ fn obey(order: Order) -> Result<(), Failure> {
         }
         Order::List { file } => list(&Input::read(&file)?),
         Order::Directory { file } => directory(&Input::read(&file)?),
+        Order::Forecast { file } => forecast(&Input::read(&file)?),
         Order::Open {
             file,
             out,
@@ -161,6 +162,25 @@ fn directory(input: &Input) -> Result<(), Failure> {
     })
 }
 
+/// Tells what opening a stream will take.
+fn forecast(input: &Input) -> Result<(), Failure> {
+    let told = sheet::forecast(&input.stream).map_err(|refusal| {
+        Failure::Refused(
+            refusal,
+            format!("what opening {} will take was not told", input.name),
+        )
+    })?;
+    print(|out| write_forecast(out, &told))
+}
+
+/// The lines of a forecast: a name, a tab, what is told.
+fn write_forecast(out: &mut dyn Write, told: &Forecast) -> io::Result<()> {
+    writeln!(out, "output bytes\t{}", told.output_bytes)?;
+    writeln!(out, "records\t{}", told.records)?;
+    writeln!(out, "enciphered body bytes\t{}", told.enciphered_body_bytes)?;
+    writeln!(out, "block keys\t{}", told.block_keys)
+}
+
 /// Opens a stream and writes the plain one. What can be told without the password is told before it
 /// is asked for.
 fn open(input: Input, out: &OsString, password_from: &PasswordFrom) -> Result<(), Failure> {
@@ -174,10 +194,7 @@ fn open(input: Input, out: &OsString, password_from: &PasswordFrom) -> Result<()
     let mut plain = output::room(stream.len())?;
     let report = {
         let password = password::get(password_from, &input.name, || {
-            match sheet::open(stream, b"", &mut scratch, &mut plain) {
-                Err(refusal) if !refusal.is_wrong_password() => Err(refused(refusal)),
-                _ => Ok(()),
-            }
+            sheet::forecast(stream).map_err(refused).map(drop)
         })?;
         sheet::open(stream, password.as_bytes(), &mut scratch, &mut plain)
         // The password is wiped here, before anything is written.
@@ -204,5 +221,12 @@ fn write_report(out: &mut dyn Write, report: &Report) -> io::Result<()> {
     writeln!(out, "records\t{}", report.records)?;
     writeln!(out, "lock\t{}", report.lock)?;
     writeln!(out, "key size\t{}", report.key_bits)?;
-    writeln!(out, "summary sealed\t{sealed}")
+    writeln!(out, "summary sealed\t{sealed}")?;
+    writeln!(out, "output bytes\t{}", report.output_bytes)?;
+    writeln!(
+        out,
+        "enciphered body bytes\t{}",
+        report.enciphered_body_bytes
+    )?;
+    writeln!(out, "block keys\t{}", report.block_keys)
 }

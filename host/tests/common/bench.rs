@@ -11,7 +11,12 @@ pub const SHEET: &str = env!("CARGO_BIN_EXE_sheet");
 
 /// The sample's password, and what is told when it is opened.
 pub const PASSWORD: &str = "Hebungswinkel 50°";
-pub const REPORT: &str = "records\t186\nlock\tRC4 CryptoAPI\nkey size\t128\nsummary sealed\tno\n";
+pub const REPORT: &str = "records\t186\nlock\tRC4 CryptoAPI\nkey size\t128\nsummary sealed\tno\n\
+    output bytes\t3435\nenciphered body bytes\t2533\nblock keys\t5\n";
+
+/// What is told of the sample beforehand.
+pub const FORECAST: &str =
+    "output bytes\t3435\nrecords\t186\nenciphered body bytes\t2533\nblock keys\t5\n";
 
 /// What came of a run.
 #[derive(Debug, PartialEq)]

@@ -41,20 +41,6 @@ impl Kind {
         }
     }
 
-    pub fn report(self, records: usize) -> sheet::Report {
-        let (lock, key_bits, summary_sealed) = match self {
-            Kind::Xor => (sheet::Lock::Xor, 0, false),
-            Kind::Office97 => (sheet::Lock::Office97, 40, false),
-            Kind::CryptoApi(bits, sealed) => (sheet::Lock::CryptoApi, bits, sealed),
-        };
-        sheet::Report {
-            records,
-            lock,
-            key_bits,
-            summary_sealed,
-        }
-    }
-
     /// The password's digest: H0 of both RC4 locks.
     pub fn digest(self, password: &str) -> Vec<u8> {
         let text = utf16(password);
@@ -81,6 +67,21 @@ impl Kind {
                 }
                 key
             }
+        }
+    }
+
+    /// The number and the details of the refusal of a FILEPASS body of which only so many bytes are
+    /// there.
+    pub fn cut_at(self, len: usize) -> (u32, [u64; 2]) {
+        let have = |before: usize| (len - before) as u64;
+        match self {
+            _ if len < 2 => (10, [have(0), 2]),
+            Kind::Xor => (10, [have(2), 4]),
+            _ if len < 6 => (12, [have(2), 4]),
+            Kind::Office97 => (14, [have(2), 52]),
+            _ if len < 14 => (15, [have(2), 12]),
+            _ if len < 14 + 48 => (17, [48, have(2)]),
+            _ => (24, [have(14 + 48), 60]),
         }
     }
 
@@ -130,13 +131,15 @@ impl Kind {
     }
 }
 
-/// A locked stream with its plain one and the offsets of its headers.
+/// A locked stream with its plain one, the offsets of its headers, and how many bytes of each body
+/// were enciphered.
 pub struct Book {
     pub kind: Kind,
     pub password: &'static str,
     pub locked: Vec<u8>,
     pub plain: Vec<u8>,
     pub headers: Vec<usize>,
+    pub enciphered: Vec<usize>,
 }
 
 impl Book {
@@ -169,9 +172,11 @@ impl Book {
                 .flat_map(|(part, block)| Rc4::new(&kind.block_key(password, block)).apply(part))
                 .collect(),
         };
+        let mut enciphered = Vec::new();
         for ((id, body), at) in records.iter().zip(&headers) {
             let (start, end) = (at + 4, at + 4 + body.len());
             let clear = clear_len(*id, body.len());
+            enciphered.push(body.len() - clear);
             if kind == Kind::Xor {
                 let sealed = xor::seal(body, clear, end, password.as_bytes());
                 locked[start..end].copy_from_slice(&sealed);
@@ -185,6 +190,7 @@ impl Book {
             locked,
             plain,
             headers,
+            enciphered,
         }
     }
 
@@ -267,6 +273,40 @@ impl Book {
     /// How many records there are in the first `len` bytes.
     pub fn records_in(&self, len: usize) -> usize {
         self.headers.iter().filter(|at| **at < len).count()
+    }
+
+    /// What opening the first `len` bytes takes, where they end behind a record.
+    pub fn forecast_in(&self, len: usize) -> sheet::Forecast {
+        let records = self.records_in(len);
+        sheet::Forecast {
+            output_bytes: len,
+            records,
+            enciphered_body_bytes: self.enciphered[..records].iter().sum(),
+            // The check's, and one for each part that was enciphered.
+            block_keys: match self.kind {
+                Kind::Xor => 0,
+                _ => 1 + self.locked[..len].chunks(BLOCK).count(),
+            },
+        }
+    }
+
+    /// What is told when the first `len` bytes are opened, where they end behind a record.
+    pub fn report_in(&self, len: usize) -> sheet::Report {
+        let (lock, key_bits, summary_sealed) = match self.kind {
+            Kind::Xor => (sheet::Lock::Xor, 0, false),
+            Kind::Office97 => (sheet::Lock::Office97, 40, false),
+            Kind::CryptoApi(bits, sealed) => (sheet::Lock::CryptoApi, bits, sealed),
+        };
+        let counts = self.forecast_in(len);
+        sheet::Report {
+            records: counts.records,
+            lock,
+            key_bits,
+            summary_sealed,
+            output_bytes: counts.output_bytes,
+            enciphered_body_bytes: counts.enciphered_body_bytes,
+            block_keys: counts.block_keys,
+        }
     }
 }
 

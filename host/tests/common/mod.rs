@@ -1,6 +1,7 @@
 //! What the tests share. Each test program uses a part of it.
 #![allow(dead_code)]
 
+pub mod bare;
 pub mod bench;
 pub mod book;
 pub mod digest;
@@ -10,6 +11,15 @@ pub mod process;
 pub mod pty;
 pub mod rc4;
 pub mod xor;
+
+/// Numbers below a bound, always the same ones for a seed.
+pub fn draws(seed: u32) -> impl FnMut(usize) -> usize {
+    let mut state = seed;
+    move |below| {
+        state = state.wrapping_mul(1_664_525).wrapping_add(1_013_904_223);
+        (state >> 8) as usize % below
+    }
+}
 
 /// UTF-16LE.
 pub fn utf16(text: &str) -> Vec<u8> {

@@ -1,0 +1,881 @@
+//! What opening a stream will take: the four counts around each of their steps, every refusal and
+//! their order, that an opening reports and refuses the same, and every fact that is written.
+
+mod common;
+
+use common::bare::{sheet_forecast, sheet_open};
+use common::book::{joined, Book, Kind, BOF, BOUND_SHEET, EOF, FILEPASS, KINDS};
+use common::guarded::{Guarded, FILL};
+use sheet::{Forecast, Refusal, Report, PASSWORD_MAX_LEN, SCRATCH_LEN, STREAM_MAX_LEN};
+
+/// A record whose body is enciphered whole, and one whose body is clear.
+const ROW: u16 = 0x0204;
+const CLEAR: u16 = 0x00E1;
+
+/// The answer and the facts of a call without the wrapper. Sees that all eight are written, whatever
+/// stood there, and nothing beside them.
+#[track_caller]
+fn bare(mut call: impl FnMut(&mut [u64; 8]) -> u32) -> (u32, [u64; 8]) {
+    let [a, b] = [0xAAAA_AAAA_AAAA_AAAA, 0x5555_5555_5555_5555].map(|junk| {
+        let mut lent = [[junk; 8]; 3];
+        let number = call(&mut lent[1]);
+        assert_eq!((lent[0], lent[2]), ([junk; 8], [junk; 8]));
+        (number, lent[1])
+    });
+    assert_eq!(a, b, "a fact is not written");
+    a
+}
+
+#[track_caller]
+fn bare_forecast(stream: &[u8]) -> (u32, [u64; 8]) {
+    // SAFETY: the stream is lent with its length, and the eight numbers overlap nothing.
+    bare(|facts| unsafe { sheet_forecast(stream.as_ptr(), stream.len(), facts) })
+}
+
+#[track_caller]
+fn bare_open(stream: &[u8], password: &[u8]) -> (u32, [u64; 8]) {
+    let mut scratch = [0; SCRATCH_LEN];
+    let mut output = vec![0; stream.len()];
+    // SAFETY: as the wrapper has it.
+    bare(|facts| unsafe {
+        sheet_open(
+            stream.as_ptr(),
+            stream.len(),
+            password.as_ptr(),
+            password.len(),
+            scratch.as_mut_ptr(),
+            scratch.len(),
+            output.as_mut_ptr(),
+            output.len(),
+            facts,
+        )
+    })
+}
+
+/// A forecast with guard bytes around the stream. Sees that nothing is written there, and that the
+/// call without the wrapper tells the same, its other facts being 0.
+#[track_caller]
+fn forecast(stream: &[u8]) -> Result<Forecast, Refusal> {
+    let lent = Guarded::with(stream);
+    let answer = sheet::forecast(lent.get());
+    let facts = match answer {
+        Ok(told) => {
+            let [a, b, c, d] = counts(told).map(|count| count as u64);
+            (0, [a, b, c, d, 0, 0, 0, 0])
+        }
+        Err(refusal) => (refusal.number(), facts_of(refusal)),
+    };
+    assert_eq!(bare_forecast(lent.get()), facts);
+    lent.check_untouched();
+    answer
+}
+
+/// An opening with buffers that suffice, and the output.
+fn open(stream: &[u8], password: &[u8]) -> (Result<Report, Refusal>, Vec<u8>) {
+    let mut scratch = [0; SCRATCH_LEN];
+    let mut output = vec![FILL; stream.len()];
+    let answer = sheet::open(stream, password, &mut scratch, &mut output);
+    (answer, output)
+}
+
+/// The four counts, in the order of the request.
+fn counts(told: Forecast) -> [usize; 4] {
+    [
+        told.output_bytes,
+        told.records,
+        told.enciphered_body_bytes,
+        told.block_keys,
+    ]
+}
+
+fn facts_of(refusal: Refusal) -> [u64; 8] {
+    let [first, second] = refusal.details();
+    [first, second, 0, 0, 0, 0, 0, 0]
+}
+
+fn told(counts: [usize; 4]) -> Result<Forecast, Refusal> {
+    let [output_bytes, records, enciphered_body_bytes, block_keys] = counts;
+    Ok(Forecast {
+        output_bytes,
+        records,
+        enciphered_body_bytes,
+        block_keys,
+    })
+}
+
+fn refused(number: u32, details: [u64; 2]) -> Result<Forecast, Refusal> {
+    Err(Refusal::new(number, details))
+}
+
+/// Passwords that are well-formed: the shortest, one that every lock takes, and one of the longest.
+fn passwords() -> [String; 3] {
+    let longest = "№ 7 🕰 ".repeat(93) + "7";
+    assert_eq!(longest.len(), PASSWORD_MAX_LEN);
+    ["".into(), "A".into(), longest]
+}
+
+/// Sees that a stream is answered so, and that an opening that is lent enough and given another
+/// password is refused likewise, or else by 27.
+#[track_caller]
+fn check(stream: &[u8], expected: Result<Forecast, Refusal>) {
+    assert_eq!(forecast(stream), expected);
+    if let Ok(told) = expected {
+        assert!(told.enciphered_body_bytes + 4 * told.records <= stream.len());
+    }
+    let refusal = expected.err().unwrap_or(Refusal::new(27, [0, 0]));
+    for password in passwords() {
+        let password = password.as_bytes();
+        let (answer, output) = open(stream, password);
+        assert_eq!(answer, Err(refusal));
+        assert!(output.iter().all(|byte| *byte == FILL));
+        let facts = (refusal.number(), facts_of(refusal));
+        assert_eq!(bare_open(stream, password), facts);
+    }
+}
+
+/// Sees that a book is told of so, and that an opening with its password reports the same four.
+#[track_caller]
+fn check_book(book: &Book, counts: [usize; 4]) {
+    check(&book.locked, told(counts));
+    let password = book.password.as_bytes();
+    let (answer, output) = open(&book.locked, password);
+    assert!(output == book.plain);
+    let report = answer.unwrap();
+    let same = [
+        report.output_bytes,
+        report.records,
+        report.enciphered_body_bytes,
+        report.block_keys,
+    ];
+    assert_eq!(same, counts);
+    let [lock, bits, sealed] = match book.kind {
+        Kind::Xor => [0, 0, 0],
+        Kind::Office97 => [1, 40, 0],
+        Kind::CryptoApi(bits, sealed) => [2, bits.into(), sealed.into()],
+    };
+    let [output_bytes, records, enciphered, keys] = counts.map(|count| count as u64);
+    let facts = [
+        records,
+        lock,
+        bits,
+        sealed,
+        output_bytes,
+        enciphered,
+        keys,
+        0,
+    ];
+    assert_eq!(bare_open(&book.locked, password), (0, facts));
+}
+
+/// A book of BOF, the lock, and these records.
+fn book(kind: Kind, behind: &[(u16, Vec<u8>)]) -> Book {
+    let front = [(BOF, vec![0, 6, 5, 0]), (FILEPASS, vec![])];
+    Book::new(kind, kind.password(), &[&front, behind].concat())
+}
+
+/// The bytes of these books before the other records: two headers, BOF's body, and the lock.
+fn front(kind: Kind) -> usize {
+    match kind {
+        Kind::Xor => 4 + 4 + 4 + 6,
+        Kind::Office97 => 4 + 4 + 4 + 54,
+        Kind::CryptoApi(..) => 4 + 4 + 4 + 122,
+    }
+}
+
+/// The block keys that are derived for these books, if so many are under RC4.
+fn keys(kind: Kind, rc4: usize) -> usize {
+    match kind {
+        Kind::Xor => 0,
+        _ => rc4,
+    }
+}
+
+#[test]
+fn a_key_for_each_started_block_and_one_for_the_check() {
+    for kind in KINDS {
+        for (len, rc4) in [
+            (1023, 2),
+            (1024, 2),
+            (1025, 3),
+            (2047, 3),
+            (2048, 3),
+            (2049, 4),
+            (65_535, 65),
+            (65_536, 65),
+            (65_537, 66),
+        ] {
+            let row = len - front(kind) - 4;
+            let book = book(kind, &[(ROW, vec![7; row])]);
+            assert_eq!(book.locked.len(), len);
+            check_book(&book, [len, 3, row, keys(kind, rc4)]);
+        }
+        let least = front(kind);
+        check_book(&book(kind, &[]), [least, 2, 0, keys(kind, 2)]);
+    }
+}
+
+#[test]
+fn a_clear_part_is_not_counted() {
+    let mut cases = vec![
+        // A sheet's entry is clear in its first four bytes.
+        (BOUND_SHEET, 0, 0),
+        (BOUND_SHEET, 1, 0),
+        (BOUND_SHEET, 2, 0),
+        (BOUND_SHEET, 3, 0),
+        (BOUND_SHEET, 4, 0),
+        (BOUND_SHEET, 5, 1),
+        (BOUND_SHEET, 6, 2),
+        (BOUND_SHEET, 300, 296),
+        (BOUND_SHEET, 65_535, 65_531),
+        // Ids that are nearly that of an entry.
+        (0x0084, 5, 5),
+        (0x0086, 5, 5),
+        (0x0185, 5, 5),
+        (0x8500, 5, 5),
+        // All others are enciphered whole.
+        (EOF, 0, 0),
+        (EOF, 3, 3),
+        (ROW, 1, 1),
+        (ROW, 65_535, 65_535),
+        (0x0000, 9, 9),
+        (0xFFFF, 9, 9),
+    ];
+    // Those of the seven are clear whole, a second FILEPASS too. Their neighbours are not.
+    for id in [BOF, FILEPASS, CLEAR, 0x0138, 0x0194, 0x0195, 0x0196] {
+        cases.extend([(id, 0, 0), (id, 1, 0), (id, 300, 0), (id, 65_535, 0)]);
+    }
+    for id in [
+        0x0808, 0x080A, 0x0908, 0x002E, 0x0030, 0x00E0, 0x00E2, 0x0137, 0x0139, 0x0193, 0x0197,
+    ] {
+        cases.push((id, 9, 9));
+    }
+    for kind in KINDS {
+        for (id, len, enciphered) in &cases {
+            let book = book(kind, &[(*id, vec![3; *len]), (ROW, vec![1; 10])]);
+            let all = front(kind) + 4 + len + 14;
+            let counts = [all, 4, enciphered + 10, keys(kind, 1 + all.div_ceil(1024))];
+            check_book(&book, counts);
+        }
+    }
+}
+
+#[test]
+fn a_book_of_nothing_but_clear_records() {
+    for kind in KINDS {
+        let clear = [BOF, FILEPASS, CLEAR, 0x0138, 0x0194, 0x0195, 0x0196];
+        let records = clear.map(|id| (id, vec![0x2F; 96]));
+        let book = book(kind, &records);
+        let all = front(kind) + 700;
+        assert!(all < 1024 && book.locked.len() == all);
+        check_book(&book, [all, 9, 0, keys(kind, 2)]);
+    }
+}
+
+#[test]
+fn the_first_lock_alone_counts() {
+    // Locks of the other kinds, and what is no lock, behind the first.
+    let mut others: Vec<_> = KINDS.map(|kind| kind.filepass(kind.password())).into();
+    others.extend([vec![], vec![0], vec![9; 70]]);
+    for kind in KINDS {
+        for other in &others {
+            let book = book(kind, &[(ROW, vec![1; 5]), (FILEPASS, other.clone())]);
+            let all = front(kind) + 9 + 4 + other.len();
+            check_book(&book, [all, 4, 5, keys(kind, 2)]);
+        }
+    }
+}
+
+#[test]
+fn counts_of_more_than_16_bits() {
+    for kind in [Kind::Xor, Kind::Office97] {
+        let rows = vec![(ROW, vec![5; 65_535]); 3];
+        let all = front(kind) + 3 * 65_539;
+        // 196,617 bytes and the front start 193 blocks.
+        check_book(&book(kind, &rows), [all, 5, 196_605, keys(kind, 194)]);
+        let rows = vec![(ROW, vec![]); 70_000];
+        let all = front(kind) + 280_000;
+        // 280,000 bytes and the front start 274 blocks.
+        check_book(&book(kind, &rows), [all, 70_002, 0, keys(kind, 275)]);
+    }
+}
+
+#[test]
+fn a_forecast_goes_on_where_a_look_ends() {
+    for kind in [Kind::Xor, Kind::CryptoApi(128, true)] {
+        for (len, rc4) in [(1_048_575, 1025), (1_048_576, 1025), (1_048_577, 1026)] {
+            let last = len - front(kind) - 20 * 50_000 - 4;
+            let mut rows = vec![(ROW, vec![5; 49_996]); 20];
+            rows.push((ROW, vec![6; last]));
+            let book = book(kind, &rows);
+            assert_eq!(book.locked.len(), len);
+            check_book(&book, [len, 23, 20 * 49_996 + last, keys(kind, rc4)]);
+        }
+        // The lock stands behind the first mebibyte, and a row behind it.
+        let mut records = vec![(BOF, vec![0, 6, 5, 0])];
+        records.extend(vec![(CLEAR, vec![0x2F; 65_532]); 16]);
+        records.extend([(FILEPASS, vec![]), (ROW, vec![7; 100])]);
+        let book = Book::new(kind, kind.password(), &records);
+        assert_eq!(book.headers[17], 1_048_584);
+        let all = front(kind) + 1_048_576 + 104;
+        check_book(&book, [all, 19, 100, keys(kind, 1026)]);
+    }
+}
+
+#[test]
+fn a_book_cut_at_every_length() {
+    for kind in KINDS {
+        let whole = Book::small(kind);
+        let (_, lock_end) = whole.filepass();
+        for len in 0..=whole.locked.len() {
+            let stream = &whole.locked[..len];
+            if let Some(at) = whole.cut_record(len) {
+                check(stream, refused(6, [at as u64, 0]));
+            } else if len == 0 {
+                check(stream, refused(7, [0, 0]));
+            } else if len < lock_end {
+                check(stream, refused(8, [0, 0]));
+            } else {
+                check(stream, Ok(whole.forecast_in(len)));
+                let (answer, _) = open(stream, whole.password.as_bytes());
+                assert_eq!(answer, Ok(whole.report_in(len)));
+            }
+        }
+        let (sheets, _) = Book::of_sheets(kind, &[300, 5, 0, 1200], |place| place);
+        for book in [Book::long(kind), sheets] {
+            check_book(&book, counts(book.forecast_in(book.locked.len())));
+        }
+    }
+}
+
+#[test]
+fn bodies_make_no_difference() {
+    for kind in KINDS {
+        let book = Book::long(kind);
+        let told = Ok(book.forecast_in(book.locked.len()));
+        assert_eq!(forecast(&book.locked), told);
+        // Every byte that is neither in a header nor in the lock is another.
+        let (_, lock_end) = book.filepass();
+        let mut stream = book.locked.clone();
+        for (at, next) in book.headers.iter().zip(&book.headers[1..]) {
+            if *next != lock_end {
+                stream[at + 4..*next]
+                    .iter_mut()
+                    .for_each(|byte| *byte ^= 0xFF);
+            }
+        }
+        assert!(stream != book.locked);
+        assert_eq!(forecast(&stream), told);
+    }
+}
+
+#[test]
+fn an_empty_stream() {
+    assert_eq!(sheet::forecast(&[]), refused(7, [0, 0]));
+    assert_eq!(bare_forecast(&[]), (7, [0; 8]));
+    check(&[], refused(7, [0, 0]));
+}
+
+/// The parts of a stream that the questions are asked of: a first record, one before the lock, the
+/// lock, and bytes behind the last record.
+#[derive(Clone, Copy)]
+struct Parts {
+    first: u16,
+    before: u16,
+    filepass: u16,
+    lock: Lock,
+    behind: usize,
+}
+
+/// The fields of a CryptoAPI lock, and how many bytes of the FILEPASS body are left at most.
+#[derive(Clone, Copy)]
+struct Lock {
+    kind: u16,
+    major: u16,
+    minor: u16,
+    size: u32,
+    flags: u32,
+    cipher: u32,
+    hash: u32,
+    bits: u32,
+    salt_size: u32,
+    hash_size: u32,
+    len: usize,
+}
+
+/// Parts that nothing is wrong with.
+const PARTS: Parts = Parts {
+    first: BOF,
+    before: CLEAR,
+    filepass: FILEPASS,
+    lock: LOCK,
+    behind: 0,
+};
+
+const LOCK: Lock = Lock {
+    kind: 1,
+    major: 4,
+    minor: 2,
+    size: 32,
+    flags: 0x0C,
+    cipher: 0x6801,
+    hash: 0x8004,
+    bits: 128,
+    salt_size: 16,
+    hash_size: 20,
+    len: usize::MAX,
+};
+
+impl Parts {
+    fn stream(&self) -> Vec<u8> {
+        let records = joined(&[
+            (self.first, vec![]),
+            (self.before, vec![]),
+            (self.filepass, self.lock.body()),
+            (ROW, vec![1, 2, 3]),
+        ]);
+        [records, vec![0; self.behind]].concat()
+    }
+
+    /// Makes the question with a number be answered by no.
+    fn spoil(&mut self, number: u32) {
+        let lock = &mut self.lock;
+        match number {
+            6 => self.behind = 3,
+            7 => self.first = CLEAR,
+            8 => self.filepass = CLEAR,
+            9 => self.before = 0x0042,
+            10 => lock.len = lock.len.min(1),
+            11 => lock.kind = 2,
+            12 => lock.len = lock.len.min(5),
+            13 => lock.major = 5,
+            15 => lock.len = lock.len.min(13),
+            16 => lock.size = 31,
+            17 => lock.len = lock.len.min(45),
+            18 => lock.flags |= 0x10,
+            19 => lock.flags |= 0x20,
+            20 => lock.flags &= !0x04,
+            21 => lock.cipher = 0x6802,
+            22 => lock.hash = 0x8003,
+            23 => lock.bits = 44,
+            24 => lock.len = lock.len.min(105),
+            25 => lock.salt_size = 17,
+            26 => lock.hash_size = 16,
+            _ => panic!("no question {number}"),
+        }
+    }
+
+    /// The details of that question, if none with a lower number is answered by no.
+    fn details(&self, number: u32) -> [u64; 2] {
+        match number {
+            6 => [self.stream().len() as u64 - 3, 0],
+            7 | 8 => [0, 0],
+            9 => [0x0042, 0],
+            10 => [1, 2],
+            11 => [2, 0],
+            12 => [3, 4],
+            13 => [5, 2],
+            15 => [11, 12],
+            16 => [31, 0],
+            17 => [32, 43],
+            18..=20 => [self.lock.flags.into(), 0],
+            21 => [0x6802, 0],
+            22 => [0x8003, 0],
+            23 => [44, 0],
+            24 => [59, 60],
+            25 => [17, 0],
+            26 => [16, 0],
+            _ => panic!("no question {number}"),
+        }
+    }
+}
+
+impl Lock {
+    /// The FILEPASS body. A header whose size is not allowed has 32 bytes.
+    fn body(&self) -> Vec<u8> {
+        let head = [self.kind, self.major, self.minor].map(u16::to_le_bytes);
+        let fields = [0x0C, self.size, self.flags, 0, self.cipher, self.hash];
+        let fields = fields.map(u32::to_le_bytes);
+        let ends = [self.bits, 1, 0, 0].map(u32::to_le_bytes);
+        let name = match self.size {
+            32..=1024 => vec![0; self.size as usize - 32],
+            _ => vec![],
+        };
+        let mut body = [
+            &head.concat()[..],
+            &fields.concat(),
+            &ends.concat(),
+            &name,
+            &self.salt_size.to_le_bytes(),
+            &[0x11; 32],
+            &self.hash_size.to_le_bytes(),
+            &[0x22; 20],
+        ]
+        .concat();
+        body.truncate(self.len);
+        body
+    }
+
+    /// A stream with this lock and nothing else that is wrong.
+    fn stream(self) -> Vec<u8> {
+        let parts = Parts {
+            lock: self,
+            ..PARTS
+        };
+        parts.stream()
+    }
+}
+
+/// The questions that can be asked of a stream with a CryptoAPI lock, but for its length.
+const QUESTIONS: [u32; 20] = [
+    6, 7, 8, 9, 10, 11, 12, 13, 15, 16, 17, 18, 19, 20, 21, 22, 23, 24, 25, 26,
+];
+
+/// Sees that of these questions, all answered by no, the first is told.
+#[track_caller]
+fn check_first(numbers: &[u32]) {
+    let mut parts = PARTS;
+    for number in numbers {
+        parts.spoil(*number);
+    }
+    let first = numbers[0];
+    let (stream, details) = (parts.stream(), parts.details(first));
+    assert_eq!(
+        forecast(&stream),
+        refused(first, details),
+        "of {numbers:?} the first"
+    );
+    check(&stream, refused(first, details));
+}
+
+#[test]
+fn every_refusal_comes_alone_and_before_all_that_are_behind_it() {
+    // BOF, a clear record, the lock of 106 bytes and a row of three.
+    check(&PARTS.stream(), told([125, 4, 3, 2]));
+    for (k, first) in QUESTIONS.iter().enumerate() {
+        check_first(&[*first]);
+        for second in &QUESTIONS[k + 1..] {
+            check_first(&[*first, *second]);
+        }
+        check_first(&QUESTIONS[k..]);
+    }
+}
+
+#[test]
+fn a_lock_of_version_1_1_or_of_xor_that_is_cut() {
+    let records = |first: u16, before: u16, lock: &[u8]| {
+        let lock = (FILEPASS, lock.to_vec());
+        joined(&[(first, vec![]), (before, vec![]), lock])
+    };
+    // The lock's body, how much of it is there, and the refusal.
+    for (kind, len, number, details) in [
+        (Kind::Xor, 5, 10, [3, 4]),
+        (Kind::Office97, 53, 14, [51, 52]),
+    ] {
+        let body = &kind.filepass("A")[..len];
+        check(&records(BOF, CLEAR, body), refused(number, details));
+        check(&records(CLEAR, CLEAR, body), refused(7, [0, 0]));
+        check(&records(BOF, EOF, body), refused(9, [0x000A, 0]));
+        let cut = [records(CLEAR, EOF, body), vec![0; 2]].concat();
+        check(&cut, refused(6, [cut.len() as u64 - 2, 0]));
+    }
+}
+
+#[test]
+fn a_lock_cut_at_every_length() {
+    for kind in KINDS {
+        let body = kind.filepass(kind.password());
+        for len in 0..body.len() {
+            let stream = joined(&[(BOF, vec![]), (FILEPASS, body[..len].to_vec())]);
+            let (number, details) = kind.cut_at(len);
+            check(&stream, refused(number, details));
+        }
+    }
+}
+
+#[test]
+fn each_field_of_a_lock_on_both_sides_of_what_is_read() {
+    let mut fine = vec![LOCK];
+    fine.extend([2, 3].map(|major| Lock { major, ..LOCK }));
+    fine.extend([33, 1023, 1024].map(|size| Lock { size, ..LOCK }));
+    fine.extend([0x04, 0x0C, 0xFFFF_FFCF].map(|flags| Lock { flags, ..LOCK }));
+    fine.push(Lock { cipher: 0, ..LOCK });
+    fine.push(Lock { hash: 0, ..LOCK });
+    fine.extend([0, 40, 48, 56, 120].map(|bits| Lock { bits, ..LOCK }));
+    for lock in fine {
+        let stream = lock.stream();
+        let len = 125 + lock.size as usize - 32;
+        assert_eq!(stream.len(), len);
+        check(&stream, told([len, 4, 3, 1 + len.div_ceil(1024)]));
+    }
+    let mut wrong = Vec::new();
+    wrong.extend([2, 3, 0x0100, 0xFFFF].map(|kind| (Lock { kind, ..LOCK }, 11, kind.into(), 0)));
+    for (major, minor) in [
+        (0, 2),
+        (1, 2),
+        (5, 2),
+        (4, 1),
+        (4, 3),
+        (0x0104, 2),
+        (4, 0x0102),
+    ] {
+        let lock = Lock {
+            major,
+            minor,
+            ..LOCK
+        };
+        wrong.push((lock, 13, major.into(), minor.into()));
+    }
+    for size in [0, 31, 1025, 0x0001_0020, u32::MAX] {
+        wrong.push((Lock { size, ..LOCK }, 16, size.into(), 0));
+    }
+    for (flags, number) in [
+        (0x14, 18),
+        (0x30, 18),
+        (0x24, 19),
+        (0x20, 19),
+        (0x00, 20),
+        (0x08, 20),
+        (0xFFFF_FFCB, 20),
+        (u32::MAX, 18),
+    ] {
+        wrong.push((Lock { flags, ..LOCK }, number, flags.into(), 0));
+    }
+    for cipher in [1, 0x6800, 0x6802, 0x660E, 0x0001_6801] {
+        wrong.push((Lock { cipher, ..LOCK }, 21, cipher.into(), 0));
+    }
+    for hash in [1, 0x8003, 0x8005, 0x0001_8004] {
+        wrong.push((Lock { hash, ..LOCK }, 22, hash.into(), 0));
+    }
+    for bits in [1, 8, 32, 39, 41, 44, 127, 129, 136, 0x0001_0080, u32::MAX] {
+        wrong.push((Lock { bits, ..LOCK }, 23, bits.into(), 0));
+    }
+    for salt_size in [0, 15, 17, 0x0001_0010] {
+        let lock = Lock { salt_size, ..LOCK };
+        wrong.push((lock, 25, salt_size.into(), 0));
+    }
+    for hash_size in [0, 16, 19, 21, 0x0001_0014] {
+        let lock = Lock { hash_size, ..LOCK };
+        wrong.push((lock, 26, hash_size.into(), 0));
+    }
+    for (lock, number, first, second) in wrong {
+        check(&lock.stream(), refused(number, [first, second]));
+    }
+}
+
+#[test]
+fn every_record_before_the_lock() {
+    // All ids to well past those that are allowed there, and some whose bytes are swapped.
+    let seven = [BOF, FILEPASS, CLEAR, 0x0138, 0x0194, 0x0195, 0x0196];
+    for id in (0..=0x09FF).chain([0x2F00, 0xE100, 0xFFFF]) {
+        let stream = joined(&[
+            (BOF, vec![]),
+            (id, vec![]),
+            (EOF, vec![]),
+            (FILEPASS, LOCK.body()),
+        ]);
+        let expected = match id {
+            // Then this is the first, and has no body.
+            FILEPASS => refused(10, [0, 2]),
+            _ if seven.contains(&id) => refused(9, [EOF.into(), 0]),
+            _ => refused(9, [id.into(), 0]),
+        };
+        assert_eq!(forecast(&stream), expected, "{id:04x}");
+        assert_eq!(open(&stream, b"").0.err(), expected.err(), "{id:04x}");
+    }
+}
+
+#[test]
+fn a_stream_of_a_gibibyte() {
+    // Zeros that are never touched take no memory. Each four of them are a record of no bytes.
+    let mut stream = vec![0; STREAM_MAX_LEN + 4];
+    let mut output = vec![0; STREAM_MAX_LEN + 4];
+    let mut at_both_sides = |stream: &[u8], expected: Result<Forecast, Refusal>| {
+        let mut open = |len: usize| {
+            let mut scratch = [0; SCRATCH_LEN];
+            sheet::open(&stream[..len], b"", &mut scratch, &mut output[..len]).err()
+        };
+        for len in [STREAM_MAX_LEN + 4, STREAM_MAX_LEN + 1] {
+            assert_eq!(bare_forecast(&stream[..len]), (4, [0; 8]));
+            assert_eq!(sheet::forecast(&stream[..len]), refused(4, [0, 0]));
+            assert_eq!(open(len), Some(Refusal::new(4, [0, 0])));
+        }
+        assert_eq!(sheet::forecast(&stream[..STREAM_MAX_LEN]), expected);
+        let refusal = expected.err().unwrap_or(Refusal::new(27, [0, 0]));
+        assert_eq!(open(STREAM_MAX_LEN), Some(refusal));
+    };
+    at_both_sides(&stream, refused(7, [0, 0]));
+    stream[..2].copy_from_slice(&BOF.to_le_bytes());
+    at_both_sides(&stream, refused(8, [0, 0]));
+    // The lock, then 1,024 rows of 65,532 bytes, then records of no bytes.
+    for (kind, lock_end, keys) in [(Kind::Office97, 64, 1_048_577), (Kind::Xor, 16, 0)] {
+        stream[..64].fill(0);
+        let front = [(BOF, vec![0; 2]), (FILEPASS, kind.filepass("A"))];
+        stream[..lock_end].copy_from_slice(&joined(&front));
+        for row in 0..1024 {
+            let at = 64 + row * 65_536;
+            stream[at..at + 4].copy_from_slice(&[0x04, 0x02, 0xFC, 0xFF]);
+        }
+        let records = 2 + (64 - lock_end) / 4 + 1024 + 251_658_224;
+        let counts = [1_073_741_824, records, 67_104_768, keys];
+        at_both_sides(&stream, told(counts));
+        // A byte less, and the last record is cut.
+        let cut = sheet::forecast(&stream[..STREAM_MAX_LEN - 1]);
+        assert_eq!(cut, refused(6, [1_073_741_820, 0]));
+    }
+}
+
+/// What documents 01 and 02 give, from a list of all records.
+fn expected(stream: &[u8]) -> Result<Forecast, Refusal> {
+    let mut records = Vec::new();
+    let mut at = 0;
+    while at < stream.len() {
+        let rest = &stream[at..];
+        let number = |k: usize| Some(u16::from_le_bytes([*rest.get(k)?, *rest.get(k + 1)?]));
+        let (Some(id), Some(len)) = (number(0), number(2)) else {
+            return refused(6, [at as u64, 0]);
+        };
+        let Some(body) = rest.get(4..4 + usize::from(len)) else {
+            return refused(6, [at as u64, 0]);
+        };
+        records.push((id, body));
+        at += 4 + body.len();
+    }
+    if records.first().map(|record| record.0) != Some(BOF) {
+        return refused(7, [0, 0]);
+    }
+    let Some(place) = records.iter().position(|(id, _)| *id == FILEPASS) else {
+        return refused(8, [0, 0]);
+    };
+    let clear = [BOF, FILEPASS, 0x00E1, 0x0138, 0x0194, 0x0195, 0x0196];
+    let mut before = records[..place].iter();
+    if let Some((id, _)) = before.find(|(id, _)| !clear.contains(id)) {
+        return refused(9, [(*id).into(), 0]);
+    }
+    let xor = expected_lock(records[place].1)?;
+    let enciphered = records.iter().map(|(id, body)| match id {
+        _ if clear.contains(id) => 0,
+        0x0085 => body.len().saturating_sub(4),
+        _ => body.len(),
+    });
+    let keys = match xor {
+        true => 0,
+        false => 1 + stream.len().div_ceil(1024),
+    };
+    told([stream.len(), records.len(), enciphered.sum(), keys])
+}
+
+/// Whether a lock is XOR, or its refusal.
+fn expected_lock(body: &[u8]) -> Result<bool, Refusal> {
+    let no = |number, first: usize, second: usize| {
+        Err(Refusal::new(number, [first as u64, second as u64]))
+    };
+    let word =
+        |bytes: &[u8], at: usize| usize::from(u16::from_le_bytes([bytes[at], bytes[at + 1]]));
+    if body.len() < 2 {
+        return no(10, body.len(), 2);
+    }
+    let (kind, lock) = (word(body, 0), &body[2..]);
+    let len = lock.len();
+    match kind {
+        0 if len < 4 => return no(10, len, 4),
+        0 => return Ok(true),
+        1 => {}
+        _ => return no(11, kind, 0),
+    }
+    if len < 4 {
+        return no(12, len, 4);
+    }
+    match (word(lock, 0), word(lock, 2)) {
+        (1, 1) if len < 52 => return no(14, len, 52),
+        (1, 1) => return Ok(false),
+        (2..=4, 2) => {}
+        (major, minor) => return no(13, major, minor),
+    }
+    if len < 12 {
+        return no(15, len, 12);
+    }
+    let field = |at: usize| word(lock, at) | word(lock, at + 2) << 16;
+    let size = field(8);
+    if !(32..=1024).contains(&size) {
+        return no(16, size, 0);
+    }
+    if len < 12 + size {
+        return no(17, size, len);
+    }
+    let [flags, cipher, hash, bits] = [12, 20, 24, 28].map(field);
+    if flags & 0x10 != 0 {
+        return no(18, flags, 0);
+    }
+    if flags & 0x20 != 0 {
+        return no(19, flags, 0);
+    }
+    if flags & 0x04 == 0 {
+        return no(20, flags, 0);
+    }
+    if ![0, 0x6801].contains(&cipher) {
+        return no(21, cipher, 0);
+    }
+    if ![0, 0x8004].contains(&hash) {
+        return no(22, hash, 0);
+    }
+    let sizes = (40..=128).step_by(8);
+    if !sizes.chain([0]).any(|size| size == bits) {
+        return no(23, bits, 0);
+    }
+    let left = len - 12 - size;
+    if left < 60 {
+        return no(24, left, 60);
+    }
+    let [salt_size, hash_size] = [12 + size, 12 + size + 36].map(field);
+    match (salt_size, hash_size) {
+        (16, 20) => Ok(false),
+        (16, _) => no(26, hash_size, 0),
+        _ => no(25, salt_size, 0),
+    }
+}
+
+#[test]
+fn random_streams_are_answered_as_the_documents_say() {
+    let mut draw = common::draws(4);
+    // How often each came: streams that are told of, and the refusals.
+    let mut counts = std::collections::BTreeMap::new();
+    for _ in 0..20_000 {
+        let mut parts = PARTS;
+        // None to three questions are answered by no.
+        for _ in 0..draw(4) {
+            parts.spoil(QUESTIONS[draw(QUESTIONS.len())]);
+        }
+        let mut lock = parts.lock.body();
+        match draw(8) {
+            0 => lock = Kind::Xor.filepass("A"),
+            1 => lock = Kind::Office97.filepass("A"),
+            _ => {}
+        }
+        if draw(6) == 0 {
+            lock.truncate(draw(lock.len() + 1));
+        }
+        let mut records = vec![
+            (parts.first, vec![0; draw(3)]),
+            (parts.before, vec![0; draw(3)]),
+            (parts.filepass, lock),
+        ];
+        for _ in 0..draw(9) {
+            let id = [ROW, BOUND_SHEET, EOF, BOF, CLEAR, FILEPASS, 0x0086][draw(7)];
+            let longest = [1, 7, 40, 900][draw(4)];
+            records.push((id, vec![id as u8; draw(longest)]));
+        }
+        let mut stream = joined(&records);
+        stream.resize(stream.len() + parts.behind, 0);
+        if draw(16) == 0 {
+            stream.truncate(draw(stream.len() + 1));
+        }
+        let answer = forecast(&stream);
+        assert_eq!(answer, expected(&stream), "{stream:02x?}");
+        let refusal = answer.err().unwrap_or(Refusal::new(27, [0, 0]));
+        assert_eq!(open(&stream, b"").0, Err(refusal), "{stream:02x?}");
+        *counts.entry(refusal.number()).or_insert(0) += 1;
+    }
+    for number in 6..=27 {
+        assert!(counts.get(&number).is_some_and(|n| *n > 50), "{counts:?}");
+    }
+}
