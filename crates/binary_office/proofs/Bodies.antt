@@ -166,7 +166,7 @@ module _ (f : Facts) where
           → Stops n book (at + 4 + len) f → Stops (suc n) book at f
       on id len i l other seven fits h =
           let m = leb-true (at + 4 + len) (length book) fits in
-          let stands = sym (step-record book at (omega arith) id len (sym i) (sym l) m) in
+          let stands = sym (step-record book at id len (sym i) (sym l) m) in
           record {
             at = h .at;
             len = h .len;

@@ -1,6 +1,7 @@
 -- Fields, and what stands at an offset, by the tests on the way: as the code answers them, and what each answer tells.
 -- Assumes nothing.
 use mathlib.Core.Path.{_≡_, refl, sym, ap, _∙_}
+use mathlib.Core.Bool.{Bool, true, false}
 use mathlib.Core.List.{List}
 use Prim.Native.Nat.{ℕ, _+_, _*_, _^_, _≤_, _<_, min}
 use native.Mathlib.Omega.{arith}
@@ -16,6 +17,7 @@ use Rattle.binary_office.specs.declared.Step.{Step}
 use Rattle.binary_office.specs.declared.Step.the-variants as step
 use Rattle.binary_office.specs.Fields.{le16At, le32At}
 use Rattle.binary_office.specs.Walk.{ended, byId, stepAt}
+use Rattle.binary_office.proofs.Ends.{AtEnd, ended-means, means-ended, not-ended}
 
 module _ (s : List ℕ) (at : ℕ) where
   pub le16-short : length s < at + 2 → two.Short ≡ le16At s at
@@ -30,6 +32,14 @@ module _ (s : List ℕ) (at : ℕ) where
   pub le16-within : (v : ℕ) → two.Value v ≡ le16At s at → at + 2 ≤ length s
   le16-within v e = either (at + 2) (length s) (λ h. h) (λ h. let z : _≡_ {A = ℕ} 0 1 = cc (le16-short h) in omega arith)
 
+  pub le16-is : (v : ℕ) → two.Value v ≡ le16At s at → v ≡ getD s at 0 + getD s (at + 1) 0 * 2 ^ 8
+  le16-is v e = let there = le16-value (getD s at 0 + getD s (at + 1) 0 * 2 ^ 8) (le16-within v e) refl in cc
+
+  -- and one that is not there is cut off
+  pub le16-cut : two.Short ≡ le16At s at → length s < at + 2
+  le16-cut e =
+      either (at + 2) (length s) (λ h. let v = le16-value (getD s at 0 + getD s (at + 1) 0 * 2 ^ 8) h refl in let z : _≡_ {A = ℕ} 0 1 = cc in omega arith) (λ h. h)
+
   pub le32-short : length s < at + 4 → four.Short ≡ le32At s at
   unfolding le32At
   le32-short h = skip _ (lt-leb (at + 4) (length s) h) refl
@@ -38,41 +48,63 @@ module _ (s : List ℕ) (at : ℕ) where
   unfolding le32At le32
   le32-value v h e = rw e (stop _ (le-leb (at + 4) (length s) h))
 
-  pub step-end : length s ≤ at → step.End ≡ stepAt s at
-  unfolding stepAt ended
-  step-end h = stop _ (le-leb (length s) at h)
+-- what stands at an offset
+module _ (s : List ℕ) (at : ℕ) where
+  pub step-end : AtEnd s at → step.End ≡ stepAt s at
+  unfolding stepAt
+  step-end a = stop _ (means-ended s at a)
 
-  module _ (inside : at < length s) where
+  module _ (inside : AtEnd s at → ⊥) where
     go-on : (r : Step) → r ≡ byId s at (le16At s at) → r ≡ stepAt s at
-    unfolding stepAt ended
-    go-on r e = skip _ (lt-leb (length s) at inside) e
+    unfolding stepAt
+    go-on r e = skip _ (not-ended s at inside) e
 
-    pub step-no-id : two.Short ≡ le16At s at → step.Fault at ≡ stepAt s at
+    step-no-id : two.Short ≡ le16At s at → step.Fault at ≡ stepAt s at
     step-no-id e = go-on (step.Fault at) (rw (← e))
 
-    pub step-no-len : (id : ℕ) → two.Value id ≡ le16At s at → two.Short ≡ le16At s (at + 2) → step.Fault at ≡ stepAt s at
+    step-no-len : (id : ℕ) → two.Value id ≡ le16At s at → two.Short ≡ le16At s (at + 2) → step.Fault at ≡ stepAt s at
     step-no-len id e g = go-on (step.Fault at) (rw (← e, ← g))
 
-    pub step-record : (id len : ℕ) → two.Value id ≡ le16At s at → two.Value len ≡ le16At s (at + 2) → at + 4 + len ≤ length s → step.Record id len ≡ stepAt s at
-    step-record id len e g h = go-on (step.Record id len) (rw (← e, ← g) (stop _ (le-leb (at + 4 + len) (length s) h)))
+    -- fewer than four bytes, and one of them is not zero
+    pub step-short : length s < at + 4 → step.Fault at ≡ stepAt s at
+    step-short h = by-id (le16At s at) refl
+      where
+        by-id : (w : Field16) → w ≡ le16At s at → step.Fault at ≡ stepAt s at
+        by-id two.Short e = step-no-id e
+        by-id (two.Value id) e = step-no-len id e (le16-short s (at + 2) (omega arith))
 
-    pub step-past : (id len : ℕ) → two.Value id ≡ le16At s at → two.Value len ≡ le16At s (at + 2) → length s < at + 4 + len → step.Fault at ≡ stepAt s at
-    step-past id len e g h = go-on (step.Fault at) (rw (← e, ← g) (skip _ (lt-leb (at + 4 + len) (length s) h) refl))
+  -- a header that is there
+  module _ (id len : ℕ) (e : two.Value id ≡ le16At s at) (g : two.Value len ≡ le16At s (at + 2)) where
+    not-end : AtEnd s at → ⊥
+    not-end a = let m = le16-within s (at + 2) len g in let f = a .few in omega arith
+
+    pub step-record : at + 4 + len ≤ length s → step.Record id len ≡ stepAt s at
+    step-record h = go-on not-end (step.Record id len) (rw (← e, ← g) (stop _ (le-leb (at + 4 + len) (length s) h)))
+
+    pub step-past : length s < at + 4 + len → step.Fault at ≡ stepAt s at
+    step-past h = go-on not-end (step.Fault at) (rw (← e, ← g) (skip _ (lt-leb (at + 4 + len) (length s) h) refl))
 
   -- a statement of what stands at an offset, by the tests on the way to it
-  pub by-step : (P : Step → Type 0) → (length s ≤ at → P step.End) → P (step.Fault at)
+  pub by-step : (P : Step → Type 0) → (AtEnd s at → P step.End) → P (step.Fault at)
       → ((id len : ℕ) → two.Value id ≡ le16At s at → two.Value len ≡ le16At s (at + 2) → at + 4 + len ≤ length s → P (step.Record id len))
       → P (stepAt s at)
-  by-step P ends faulty one = either (length s) at (λ h. rw (← (step-end h)) (ends h)) (λ h. by-id h (le16At s at) refl)
+  by-step P ends faulty one = by-end (ended s at) refl
     where
-      by-len : at < length s → (id : ℕ) → two.Value id ≡ le16At s at → (w : Field16) → w ≡ le16At s (at + 2) → P (stepAt s at)
-      by-len h id e two.Short g = rw (← (step-no-len h id e g)) faulty
-      by-len h id e (two.Value len) g =
-          either (at + 4 + len) (length s) (λ m. rw (← (step-record h id len e g m)) (one id len e g m)) (λ m. rw (← (step-past h id len e g m)) faulty)
+      by-len : (AtEnd s at → ⊥) → (id : ℕ) → two.Value id ≡ le16At s at → (w : Field16) → w ≡ le16At s (at + 2) → P (stepAt s at)
+      by-len n id e two.Short g = rw (← (step-no-len n id e g)) faulty
+      by-len n id e (two.Value len) g =
+          either (at + 4 + len) (length s) (λ m. rw (← (step-record id len e g m)) (one id len e g m)) (λ m. rw (← (step-past id len e g m)) faulty)
 
-      by-id : at < length s → (w : Field16) → w ≡ le16At s at → P (stepAt s at)
-      by-id h two.Short e = rw (← (step-no-id h e)) faulty
-      by-id h (two.Value id) e = by-len h id e (le16At s (at + 2)) refl
+      by-id : (AtEnd s at → ⊥) → (w : Field16) → w ≡ le16At s at → P (stepAt s at)
+      by-id n two.Short e = rw (← (step-no-id n e)) faulty
+      by-id n (two.Value id) e = by-len n id e (le16At s (at + 2)) refl
+
+      by-end : (t : Bool) → ended s at ≡ t → P (stepAt s at)
+      by-end true e = let a = ended-means s at e in rw (← (step-end a)) (ends a)
+      by-end false e = by-id (λ a. let z : true ≡ false = sym (means-ended s at a) ∙ e in no z) (le16At s at) refl
+        where
+          no : true ≡ false → ⊥
+          no z = let y : _≡_ {A = ℕ} 0 1 = cc in omega arith
 
 -- the fields of a list's first bytes: the list's own where they lie within them, and else cut short
 module _ (s : List ℕ) (n at : ℕ) where

@@ -1,7 +1,9 @@
 pub mod Along
 pub mod Bodies
+pub mod Ends
 pub mod Headers
 pub mod KeySizes
 pub mod Locks
+pub mod Remainder
 pub mod Renamed
 pub mod Walks

@@ -1,4 +1,5 @@
 pub mod Fields
 pub mod KeySizes
 pub mod Look
+pub mod Remainder
 pub mod Walk

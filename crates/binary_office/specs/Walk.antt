@@ -1,11 +1,11 @@
--- The record walk of document 01 ("The walk and its listing"): MS-XLS 2.1.4. A record is an id of two bytes, a length of two bytes, and a body.
+-- The record walk of document 01 ("The walk and its listing") and document 02 (T-05): MS-XLS 2.1.4. A record is an id of two bytes, a length of two bytes, and a body.
 -- Assumes nothing.
 use Prim.Native.Nat.{ℕ, zero, suc, _+_, min}
-use mathlib.Core.Bool.{Bool, _||_}
+use mathlib.Core.Bool.{Bool, true, _&&_, _||_}
 use mathlib.Core.List.{List, [], _∷_}
 use lib.Dec.{eqb, leb}
-use lib.ListN.{length}
-use Rattle.laws.specs.Choice.{pick}
+use lib.ListN.{length, drop, replicate}
+use Rattle.laws.specs.Choice.{pick, within}
 use Rattle.binary_office.specs.Fields.{le16At}
 use Rattle.binary_office.specs.declared.Field16.{Field16}
 use Rattle.binary_office.specs.declared.Field16.the-variants as two
@@ -15,9 +15,25 @@ use Rattle.binary_office.specs.declared.WalkEnd.{WalkEnd}
 use Rattle.binary_office.specs.declared.WalkEnd.the-variants as end
 use Rattle.binary_office.specs.declared.Walked.{Walked}
 
--- the walk ends cleanly at the end of the stream: the one place that decides it
+-- so many zero bytes, and whether bytes are that
+abbrev pub zeroBytes : ℕ → List ℕ
+zeroBytes n = replicate n 0
+
+abbrev pub allZero : List ℕ → Bool
+allZero [] = true
+allZero (b ∷ bs) = eqb b 0 && allZero bs
+
+-- document 02, T-05: "One spreadsheet program pads a book with up to three zero bytes."
+abbrev pub paddingMax : ℕ
+paddingMax = 3
+
+-- "a remainder of one to three bytes, all zero"
+abbrev pub isPadding : (remainder : List ℕ) → Bool
+isPadding remainder = within 1 paddingMax (length remainder) && allZero remainder
+
+-- the walk ends cleanly at the end of the stream, or where the remainder is padding: the one place that decides it
 unfoldable pub ended : List ℕ → ℕ → Bool
-ended s at = leb (length s) at
+ended s at = leb (length s) at || isPadding (drop at s)
 
 -- a header cut short leaves the walk before its length is used; the fault's place is the header's offset
 abbrev pub byLength : List ℕ → ℕ → ℕ → Field16 → Step
@@ -71,6 +87,18 @@ walkAt s at = walkFrom (suc (length s)) s at
 
 abbrev pub walk : List ℕ → Walk
 walk s = walkAt s 0
+
+-- where the records end: behind the last of them, or at the start where there is none
+abbrev pub endFrom : ℕ → List BiffRecord → ℕ
+endFrom at [] = at
+endFrom at (r ∷ rs) = endFrom (r .at + 4 + r .len) rs
+
+abbrev pub recordsEnd : List ℕ → ℕ
+recordsEnd s = endFrom 0 (walk s .records)
+
+-- what is left behind them: where the walk ends cleanly nothing, or padding; else the record that can't be read and all behind it
+abbrev pub remainder : List ℕ → List ℕ
+remainder s = drop (recordsEnd s) s
 
 -- what the code tells of a walk: how many records, and how it ends
 abbrev pub walkedOf : Walk → Walked

@@ -27,7 +27,7 @@ pub enum Step {
     End,
 }
 
-// How a walk ends: at the end of the stream, or at a fault's place.
+// How a walk ends: cleanly, at the end of the stream or at its padding, or at a fault's place.
 pub enum WalkEnd {
     Clean,
     Fault(usize),
@@ -98,18 +98,31 @@ pub fn le32(s: &[u8], at: usize) -> Field32
     Field32::Value(word::from_le_bytes(s[at], s[at + 1], s[at + 2], s[at + 3]))
 }
 
-// What stands at an offset: a header cut short, or a body past the end, is a fault at the header's offset.
+// What stands at an offset with fewer than four bytes left: the end where all of them are zero, else a fault.
+fn rest_at(s: &[u8], at: usize) -> Step
+    requires { ⌜ length (now s) < at + 4 ⌝ }
+    ensures { λ r. ⌜ r ≡ stepAt (now (s .entry)) at ⌝ }
+{
+    let mut i = at;
+    while i < s.len() {
+        if s[i] != 0 {
+            return Step::Fault(at);
+        }
+        i += 1;
+    }
+    Step::End
+}
+
+// What stands at an offset: a header cut short, or a body past the end, is a fault at the header's offset; padding is
+// the end.
 pub fn step_at(s: &[u8], at: usize) -> Step
     ensures { λ r. ⌜ r ≡ stepAt (now (s .entry)) at ⌝ }
 {
-    if s.len() <= at {
-        return Step::End;
-    }
     let Field16::Value(id) = le16(s, at) else {
-        return Step::Fault(at);
+        return rest_at(s, at);
     };
     let Field16::Value(len) = le16(s, at + 2) else {
-        return Step::Fault(at);
+        return rest_at(s, at);
     };
     if at + 4 + (len as usize) <= s.len() {
         Step::Record(id, len)

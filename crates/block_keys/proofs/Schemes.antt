@@ -1,24 +1,23 @@
 -- The scheme of a structure, by its version pair: a pair that is cut or of neither family is refused, and each family's own questions give the rest.
 -- Assumes nothing.
-use mathlib.Core.Path.{_≡_, refl, sym, ap, _∙_}
+use mathlib.Core.Path.{_≡_, refl, sym, ap}
 use mathlib.Core.Bool.{Bool, true, false, _&&_, _||_}
-use mathlib.Core.List.{List, [], _++_, append-nil}
+use mathlib.Core.List.{List, _++_, append-nil}
 use mathlib.Core.Option.{Option, none, some}
 use Prim.Native.Nat.{ℕ, _+_, _≤_, _<_}
 use native.Mathlib.Omega.{arith}
-use borrow.Author.Tests.{le-leb, lt-leb, eq-eqb, ne-eqb}
+use borrow.Author.Tests.{le-leb, lt-leb, ne-eqb}
 use lib.Bits.{bitAnd}
 use lib.Dec.{eqb}
 use lib.ListN.{length}
-use Rattle.laws.specs.Choice.{pick, within}
+use Rattle.laws.specs.Choice.{within}
 use Rattle.laws.proofs.Choice.{taken, left, within-yes, within-low, within-high}
 use Rattle.binary_office.specs.declared.Field16.the-variants as two
 use Rattle.binary_office.specs.Fields.{le16At}
-use Rattle.binary_office.proofs.Headers.{le16-within}
+use Rattle.binary_office.proofs.Headers.{le16-is, le16-cut, le16-within}
 use Rattle.file_params.specs.declared.Refusal.{Refusal}
 use Rattle.file_params.specs.declared.Refusal.the-variants.{EncryptionVersionInfoTruncated, UnsupportedEncryptionVersion}
-use Rattle.file_params.specs.Questions.{Question, asked, only, version, office97, cryptoApi, rc4, isOffice97, isCryptoApi}
-use Rattle.file_params.proofs.Fields.{field-value, field-cut}
+use Rattle.file_params.specs.Questions.{asked, only, version, office97, cryptoApi, rc4, isOffice97, isCryptoApi}
 use Rattle.file_params.proofs.Laws.{past, refused, asked-on, asked-stop, only-yes, only-no}
 use Rattle.rc4_office97.specs.declared.Parsed.the-variants as of97
 use Rattle.rc4_office97.specs.Parse as from97
@@ -27,7 +26,6 @@ use Rattle.rc4_cryptoapi.specs.declared.Parsed.the-variants as ofApi
 use Rattle.rc4_cryptoapi.specs.Parse as fromApi
 use Rattle.block_keys.specs.declared.Kind.the-variants.{CryptoApi}
 use Rattle.block_keys.specs.declared.Rc4Lock.{Rc4Lock}
-use Rattle.block_keys.specs.declared.Scheme.{Scheme}
 use Rattle.block_keys.specs.declared.Scheme.the-variants.{Locked, Refused}
 use Rattle.block_keys.specs.Lock.{office97Lock, cryptoApiLock, lockOf, unless, schemeOf}
 
@@ -94,10 +92,10 @@ module _ (st : List ℕ) where
   cut h = stopped _ (refused _ (lt-leb _ _ h))
 
   pub no-major : two.Short ≡ le16At st 0 → Refused (EncryptionVersionInfoTruncated (length st)) ≡ schemeOf st
-  no-major e = let h = field-cut st 0 e in cut (omega arith)
+  no-major e = let h = le16-cut st 0 e in cut (omega arith)
 
   pub no-minor : two.Short ≡ le16At st 2 → Refused (EncryptionVersionInfoTruncated (length st)) ≡ schemeOf st
-  no-minor e = let h = field-cut st 2 e in cut (omega arith)
+  no-minor e = let h = le16-cut st 2 e in cut (omega arith)
 
   module _ (major minor : ℕ) (a : two.Value major ≡ le16At st 0) (b : two.Value minor ≡ le16At st 2) where
     there : 4 ≤ length st
@@ -105,16 +103,16 @@ module _ (st : List ℕ) where
 
     -- the tests of the two families
     is-97 : (t : Bool) → (eqb major 1 && eqb minor 1) ≡ t → isOffice97 st ≡ t
-    is-97 t e = rw (← field-value st 0 major a, ← field-value st 2 minor b) e
+    is-97 t e = rw (← le16-is st 0 major a, ← le16-is st 2 minor b) e
 
     is-api : (t : Bool) → (within 2 4 major && eqb minor 2) ≡ t → isCryptoApi st ≡ t
-    is-api t e = rw (← field-value st 0 major a, ← field-value st 2 minor b) e
+    is-api t e = rw (← le16-is st 0 major a, ← le16-is st 2 minor b) e
 
     pub other-version : (eqb major 1 && eqb minor 1) ≡ false → (within 2 4 major && eqb minor 2) ≡ false
         → Refused (UnsupportedEncryptionVersion major minor) ≡ schemeOf st
     unfolding asked version
     other-version e g =
-        rw (field-value st 0 major a, field-value st 2 minor b)
+        rw (le16-is st 0 major a, le16-is st 2 minor b)
         (stopped _ (past _ (le-leb _ _ there) (refused _ (rw (is-97 false e, is-api false g)))))
 
     accepted : (isOffice97 st || isCryptoApi st) ≡ true → none ≡ asked (version st)

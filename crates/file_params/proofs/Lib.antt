@@ -1,4 +1,3 @@
-pub mod Fields
 pub mod Laws
 pub mod Numbers
 pub mod Tables

@@ -1,7 +1,7 @@
 -- Laws of the choice by a test. `stop` and `skip` answer a chain of choices from its top: the tests before the one that held are skipped.
 -- Assumes nothing.
 use mathlib.Core.Path.{_≡_, refl, sym, _∙_}
-use mathlib.Core.Bool.{Bool, true, false, _&&_}
+use mathlib.Core.Bool.{Bool, true, false, _&&_, _||_}
 use Prim.Native.Nat.{ℕ, _≤_, _<_}
 use native.Mathlib.Decide.{decLe, ℕ-discrete}
 use native.Mathlib.Nat.{lt-of-not-le}
@@ -45,13 +45,25 @@ within-high lo hi x a = go (leb lo x) (lt-leb x hi a)
     go true e = e
     go false e = refl
 
-and-left : (t u : Bool) → (t && u) ≡ true → t ≡ true
+-- both of two tests
+pub and-left : (t u : Bool) → (t && u) ≡ true → t ≡ true
 and-left true u e = refl
 and-left false u e = e
 
-and-right : (t u : Bool) → (t && u) ≡ true → u ≡ true
+pub and-right : (t u : Bool) → (t && u) ≡ true → u ≡ true
 and-right true u e = e
 and-right false u e = elim u [ true ↦ refl | false ↦ e ]
+
+-- one of two tests
+pub or-else : (t u : Bool) → (t || u) ≡ true → t ≡ false → u ≡ true
+or-else t u e f = rw f at e
+
+pub or-left : (t u : Bool) → t ≡ true → (t || u) ≡ true
+or-left t u e = rw e
+
+pub or-right : (t u : Bool) → u ≡ true → (t || u) ≡ true
+or-right true u e = refl
+or-right false u e = e
 
 pub within-from : (lo hi x : ℕ) → within lo hi x ≡ true → lo ≤ x
 within-from lo hi x e = leb-true lo x (and-left (leb lo x) (leb x hi) e)

@@ -11,11 +11,10 @@ use lib.ListN.{length, drop}
 use Rattle.laws.proofs.Choice.{taken, left, same-or}
 use Rattle.binary_office.specs.declared.Field16.the-variants as two
 use Rattle.binary_office.specs.Fields.{le16At}
-use Rattle.binary_office.proofs.Headers.{le16-within}
+use Rattle.binary_office.proofs.Headers.{le16-is, le16-cut, le16-within}
 use Rattle.file_params.specs.declared.Refusal.{Refusal}
 use Rattle.file_params.specs.declared.Refusal.the-variants.{FilepassTruncated, FilepassEncryptionType}
 use Rattle.file_params.specs.Questions.{asked, only, lock, rc4, encryptionType, typeOf, structureOf}
-use Rattle.file_params.proofs.Fields.{field-value, field-cut}
 use Rattle.file_params.proofs.Laws.{past, refused, asked-on, asked-stop, only-yes, only-no, none-of-both, first-yes, rest-yes}
 use Rattle.block_keys.specs.declared.Rc4Lock.{Rc4Lock}
 use Rattle.block_keys.specs.declared.Scheme.the-variants as rc4Scheme
@@ -34,14 +33,14 @@ module _ (body : List ℕ) where
 
   pub no-type : two.Short ≡ le16At body 0 → read.Refused (FilepassTruncated (length body) 2) ≡ readOf (schemeBy body) (asked (lock body))
   unfolding asked encryptionType
-  no-type e = stopped _ (refused _ (lt-leb _ _ (field-cut body 0 e)))
+  no-type e = stopped _ (refused _ (lt-leb _ _ (le16-cut body 0 e)))
 
   module _ (t : ℕ) (e : two.Value t ≡ le16At body 0) where
     there : 2 ≤ length body
     there = le16-within body 0 t e
 
     type-is : t ≡ typeOf body
-    type-is = field-value body 0 t e
+    type-is = le16-is body 0 t e
 
     pub xor-cut : t ≡ 0 → length body < 6 → read.Refused (FilepassTruncated (length body - 2) 4) ≡ readOf (schemeBy body) (asked (lock body))
     unfolding asked encryptionType

@@ -10,14 +10,14 @@ use native.Mathlib.Numerals.{add-one}
 use native.Mathlib.Omega.{arith}
 use borrow.Author.Tests.{eqb-true}
 use lib.Dec.{eqb}
-use lib.ListN.{length}
+use lib.ListN.{length, length-drop}
 use Rattle.laws.specs.Choice.{pick}
 use Rattle.binary_office.specs.declared.Step.the-variants as step
 use Rattle.binary_office.specs.declared.WalkEnd.{WalkEnd}
 use Rattle.binary_office.specs.declared.WalkEnd.the-variants as end
-use Rattle.binary_office.specs.Walk.{BiffRecord, Walk, stepAt, walkAt, walk, neverEncrypted}
+use Rattle.binary_office.specs.Walk.{BiffRecord, Walk, stepAt, walkAt, walk, endFrom, recordsEnd, remainder, neverEncrypted}
 use Rattle.binary_office.proofs.Walks.{record-within, walk-end, walk-fault}
-use Rattle.binary_office.proofs.Along.{records-on, ends-on, records-end, records-fault, along}
+use Rattle.binary_office.proofs.Along.{records-on, ends-on, end-on, end-within, records-end, records-fault, along}
 use Rattle.file_params.specs.Questions.{filepass, otherId}
 use Rattle.survey.specs.declared.Found.{Found}
 use Rattle.survey.specs.declared.Found.the-variants as found
@@ -161,25 +161,32 @@ module _ (s : List ℕ) where
         → record { end = end.Fault p; records = records; enciphered = enciphered; found = f; other = o } ≡ tallyOf s
     tallied-fault p e = all-tallied (end.Fault p) (sym (ap (λ (w : Walk). w .ends) (walk-fault s at p e)) ∙ t .ends) (records-fault s at p e)
 
-  -- the enciphered bytes and four for each record lie behind one another in the stream
-  pub within-stream : encipheredBytes (walk s .records) + length (walk s .records) * 4 ≤ length s
+  -- the enciphered bytes and four for each record lie behind one another, up to where the records end
+  abbrev Fit : ℕ → Type 0
+  Fit at = at + (encipheredBytes (walkAt s at .records) + length (walkAt s at .records) * 4) ≤ endFrom at (walkAt s at .records)
+
+  none-left : (at : ℕ) → walkAt s at .records ≡ [] → Fit at
   unfolding encipheredBytes
-  within-stream =
-      let h = along s (λ (at : ℕ). at ≤ length s → at + (encipheredBytes (walkAt s at .records) + length (walkAt s at .records) * 4) ≤ length s)
-      (λ at e h. none-left at (records-end s at e) h)
-      (λ at p e h. none-left at (records-fault s at p e) h)
-      (λ at id len e again h.
-      let inside = record-within s at id len e in
+  none-left at e = rw e (omega arith)
+
+  within-records : Fit 0
+  within-records =
+      along s Fit
+      (λ at e. none-left at (records-end s at e))
+      (λ at p e. none-left at (records-fault s at p e))
+      (λ at id len e again.
       let clear = clear-within id len in
       let one = one-more at id len e in
       let bytes = bytes-more at id len e in
-      let rest = again inside in
+      let ends = end-on s at id len e in
       omega arith)
       0
       (omega arith)
-      (omega arith) in
+
+  -- and so does what is left behind them
+  pub within-stream : encipheredBytes (walk s .records) + length (walk s .records) * 4 + length (remainder s) ≤ length s
+  within-stream =
+      let records = within-records in
+      let inside = end-within s in
+      let left-over = length-drop (recordsEnd s) s in
       omega arith
-    where
-      none-left : (at : ℕ) → walkAt s at .records ≡ [] → at ≤ length s
-          → at + (encipheredBytes (walkAt s at .records) + length (walkAt s at .records) * 4) ≤ length s
-      none-left at e h = rw e (omega arith)
