@@ -1,5 +1,5 @@
--- What a run leaves that opened a stream: the plain stream at the start of the output, which has the stream's bounds, its own bytes in headers and clear parts,
--- the zeroed FILEPASS, and under RC4 the stream's bytes with the keystream everywhere else.
+-- What a run leaves that opened a stream: the plain stream at the start of the output, which has the stream's bounds, its own bytes in headers, clear parts and
+-- padding, the zeroed FILEPASS, and under RC4 the stream's bytes with the keystream everywhere else.
 -- Assumes nothing.
 use mathlib.Core.Path.{_≡_, refl, ap, _∙_}
 use mathlib.Core.Bool.{Bool, true, false, _&&_}
@@ -16,18 +16,19 @@ use Rattle.laws.specs.Choice.{pick}
 use Rattle.laws.proofs.Choice.{taken, left, either}
 use Rattle.laws.proofs.Offsets.{length-mapAt, getD-mapAt}
 use Rattle.sensitive.specs.Ansi.{ansi}
+use Rattle.binary_office.specs.declared.Step.the-variants as step
 use Rattle.binary_office.specs.declared.WalkEnd.the-variants as end
-use Rattle.binary_office.specs.Walk.{BiffRecord, walkAt, walk, clearLen}
-use Rattle.binary_office.proofs.Along.{records-on, records-end, records-fault, along}
+use Rattle.binary_office.specs.Walk.{BiffRecord, stepAt, walkAt, walk, recordsEnd, clearLen}
+use Rattle.binary_office.proofs.Along.{records-on, records-end, records-fault, end-there, along}
 use Rattle.binary_office.proofs.Walks.{record-within}
 use Rattle.file_params.specs.Questions.{filepass, filepassBody, structureOf, typeOf}
 use Rattle.survey.specs.Survey.{encipheredBytes, blockKeys}
 use Rattle.excel97.specs.declared.Lock.the-variants.{Xor}
 use Rattle.excel97.specs.declared.Report.{Report}
 use Rattle.excel97.specs.Open.{arrayOf, xorByte, rc4Byte, plainByte, recordAt, inRecord, blanked, plainAt, plain, xorReport, rc4Report, report}
-use Rattle.excel97.specs.Demand3.{Plain}
+use Rattle.excel97.specs.Demand3.{Place, in-record, in-padding, Plain}
 use Rattle.excel97.proofs.Records.{Reached, reached-none, reached-on, reached-fault, reached-end, record-here}
-use Rattle.excel97.proofs.SameBounds.{same-bounds}
+use Rattle.excel97.proofs.SameBounds.{behind-records, same-bounds}
 use Rattle.excel97.proofs.Through.{own-byte, other-byte}
 
 -- an offset that a record covers lies in the stream
@@ -57,29 +58,32 @@ module _ (s : List ℕ) where
       0
       (omega arith)
 
-  -- and every offset of a stream that is walked to its end lies in a record, so what is said of the bytes of records is said of all bytes
-  pub covered : walk s .ends ≡ end.Clean → (o : ℕ) → o < length s → (r : BiffRecord) × (recordAt (walk s .records) o ≡ some r)
+  -- and every offset of a stream that is walked to its end lies in a record or in the padding
+  pub covered : walk s .ends ≡ end.Clean → (o : ℕ) → o < length s → Place s o
   covered clean o h =
-      along s (λ (at : ℕ). Reached s at → at ≤ o → (r : BiffRecord) × (recordAt (walk s .records) o ≡ some r))
-      (λ at e w k. let z = reached-end s at w e in absurd (no at z k))
+      along s (λ (at : ℕ). Reached s at → at ≤ o → Place s o)
+      (λ at e w k. at-end at e k (reached-end s at w (records-end s at e)))
       (λ at p e w k. absurd (reached-fault s at w p e clean))
       (λ at id len e again w k.
       either (at + 4 + len) o (λ m. again (reached-on s at id len w e) m)
-      (λ m. (record { at = at; id = id; len = len }, record-here s at id len w e o k m)))
+      (λ m. in-record (record { at = at; id = id; len = len }) (record-here s at id len w e o k m)))
       0
       (omega arith)
       (reached-none s)
       (omega arith)
     where
-      no : (at : ℕ) → at ≡ length s → at ≤ o → ⊥
-      no at z k = omega arith
+      at-end : (at : ℕ) → stepAt s at ≡ step.End → at ≤ o → at ≡ recordsEnd s → Place s o
+      at-end at e k q =
+          let end = end-there s at e in
+          let few = end .few in
+          in-padding (omega arith) (omega arith) (end .zeros o k)
 
 module _ (s p : List ℕ) where
   pub length-plain : length (plain s p) ≡ length s
   unfolding plain
   length-plain = length-mapAt (plainAt s p) 0 s
 
-  plain-at : (o : ℕ) → o < length s → getD (plain s p) o 0 ≡ plainAt s p o (getD s o 0)
+  pub plain-at : (o : ℕ) → o < length s → getD (plain s p) o 0 ≡ plainAt s p o (getD s o 0)
   unfolding plain
   plain-at o h = getD-mapAt (plainAt s p) 0 s o 0 h ∙ ap (λ (i : ℕ). plainAt s p i (getD s o 0)) (zero-add o)
 
@@ -87,6 +91,17 @@ module _ (s p : List ℕ) where
   unfolding plainAt
   zeroed-byte o h e =
       plain-at o h ∙ taken 0 (inRecord (plainByte (filepassBody s) p) (recordAt (walk s .records) o) o (getD s o 0)) e
+
+  -- a byte behind the records
+  pub behind-byte : (o x : ℕ) → recordsEnd s ≤ o → plainAt s p o x ≡ x
+  unfolding plainAt
+  behind-byte o x h =
+      let b = behind-records s o h in
+      left 0 (inRecord (plainByte (filepassBody s) p) (recordAt (walk s .records) o) o x) (b .1)
+      ∙ ap (λ (q : Option BiffRecord). inRecord (plainByte (filepassBody s) p) q o x) (b .0)
+
+  padding-byte : (o : ℕ) → recordsEnd s ≤ o → o < length s → getD (plain s p) o 0 ≡ getD s o 0
+  padding-byte o h k = plain-at o k ∙ behind-byte o (getD s o 0) h
 
   -- a byte of a record that is not zeroed
   module _ (r : BiffRecord) (o : ℕ) (e : recordAt (walk s .records) o ≡ some r) (g : blanked (filepass (walk s .records)) o ≡ false) where
@@ -128,11 +143,12 @@ module _ (s p : List ℕ) where
 
     pub plain-left : Plain s p output′ x
     plain-left =
-        let b = same-bounds s (plain s p) length-plain clean (λ r o e h g. kept-byte r o e g h) zeroed-byte in
+        let b = same-bounds s (plain s p) length-plain clean (λ r o e h g. kept-byte r o e g h) zeroed-byte padding-byte in
         record {
           bounds = rw at-start (b .0);
           ends = rw at-start (b .1);
           covered = covered s clean;
+          padded = λ o h k. byte-is o k ∙ padding-byte o h k;
           own = λ r o e h g. byte-is o (in-stream s r o e) ∙ kept-byte r o e g h;
           zeroed = λ o h e. byte-is o h ∙ zeroed-byte o h e;
           deciphered = λ f r o e h g. byte-is o (in-stream s r o e) ∙ rc4-byte r o e g (not-xor (λ q. f (ap (λ (y : Report). y .lock) told ∙ q))) h;

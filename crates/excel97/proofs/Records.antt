@@ -2,8 +2,8 @@
 -- Assumes nothing.
 use mathlib.Core.Path.{_≡_, refl, sym, ap, _∙_}
 use mathlib.Core.Bool.{true, false}
-use mathlib.Core.List.{List}
-use mathlib.Core.Option.{some}
+use mathlib.Core.List.{List, []}
+use mathlib.Core.Option.{none, some}
 use Prim.Native.Nat.{ℕ, _+_, _≤_, _<_}
 use native.Mathlib.Omega.{arith}
 use borrow.Author.Tests.{le-leb, lt-ltb, le-ltb}
@@ -12,8 +12,8 @@ use Rattle.laws.specs.Choice.{pick}
 use Rattle.laws.proofs.Choice.{taken, left}
 use Rattle.binary_office.specs.declared.Step.the-variants as step
 use Rattle.binary_office.specs.declared.WalkEnd.the-variants as end
-use Rattle.binary_office.specs.Walk.{BiffRecord, Walk, stepAt, walkAt, walk}
-use Rattle.binary_office.proofs.Along.{records-on, ends-on, end-past}
+use Rattle.binary_office.specs.Walk.{BiffRecord, Walk, stepAt, walkAt, walk, endFrom, recordsEnd}
+use Rattle.binary_office.proofs.Along.{records-on, ends-on, end-on}
 use Rattle.binary_office.proofs.Walks.{record-within, walk-fault}
 use Rattle.excel97.specs.Open.{recordAt, covers}
 
@@ -30,9 +30,10 @@ module _ (s : List ℕ) where
     pub inside : at ≤ length s
     pub rest : (o : ℕ) → at ≤ o → recordAt (walk s .records) o ≡ recordAt (walkAt s at .records) o
     pub ends : walkAt s at .ends ≡ walk s .ends
+    pub end : endFrom at (walkAt s at .records) ≡ recordsEnd s
 
   pub reached-none : Reached 0
-  reached-none = record { inside = omega arith; rest = λ o h. refl; ends = refl }
+  reached-none = record { inside = omega arith; rest = λ o h. refl; ends = refl; end = refl }
 
   module _ (at id len : ℕ) (w : Reached at) (e : stepAt s at ≡ step.Record id len) where
     abbrev the : BiffRecord
@@ -51,6 +52,7 @@ module _ (s : List ℕ) where
           inside = record-within s at id len e;
           rest = λ o h. w .rest o (omega arith) ∙ opened o ∙ left (some the) (recordAt (walkAt s (at + 4 + len) .records) o) (covers-past the o h);
           ends = sym (ends-on s at id len e) ∙ w .ends;
+          end = sym (end-on s at id len e) ∙ w .end;
         }
 
   module _ (at : ℕ) (w : Reached at) where
@@ -61,5 +63,10 @@ module _ (s : List ℕ) where
         no : _≡_ {A = ℕ} 0 1 → ⊥
         no z = omega arith
 
-    pub reached-end : stepAt s at ≡ step.End → at ≡ length s
-    reached-end e = let i = w .inside in let h = end-past s at e in omega arith
+    -- where no record is left, the records end, and no offset from there on lies in one
+    pub reached-end : walkAt s at .records ≡ [] → at ≡ recordsEnd s
+    reached-end e = sym (ap (endFrom at) e) ∙ w .end
+
+    pub in-none : walkAt s at .records ≡ [] → (o : ℕ) → at ≤ o → recordAt (walk s .records) o ≡ none
+    unfolding recordAt
+    in-none e o h = w .rest o h ∙ ap (λ (rs : List BiffRecord). recordAt rs o) e

@@ -10,24 +10,23 @@ use Prim.Native.Nat.{ℕ, _+_, _≤_, _<_}
 use native.Mathlib.Omega.{arith}
 use borrow.Author.Tests.{eq-eqb, ne-eqb}
 use lib.Dec.{eqb}
-use lib.ListN.{length, getD}
+use lib.ListN.{length, getD, List·getD-eq-default}
 use Rattle.laws.specs.Choice.{pick}
-use Rattle.laws.proofs.Choice.{taken, left, same-or}
+use Rattle.laws.proofs.Choice.{taken, left, either, same-or}
 use Rattle.binary_office.specs.declared.Field16.the-variants as two
 use Rattle.binary_office.specs.declared.Step.the-variants as step
 use Rattle.binary_office.specs.declared.WalkEnd.the-variants as end
 use Rattle.binary_office.specs.Fields.{le16At}
-use Rattle.binary_office.specs.Walk.{BiffRecord, stepAt, walkAt, walk, clearLen}
-use Rattle.binary_office.proofs.Headers.{le16-value}
+use Rattle.binary_office.specs.Walk.{BiffRecord, stepAt, walkAt, walk, recordsEnd, clearLen}
+use Rattle.binary_office.proofs.Headers.{le16-is, le16-value}
 use Rattle.binary_office.proofs.Walks.{record-there, record-within}
 use Rattle.binary_office.proofs.Along.{records-on, records-end, records-fault, along}
 use Rattle.binary_office.proofs.Renamed.{renamed, walk-renamed}
 use Rattle.file_params.specs.Questions.{filepass, le16}
-use Rattle.file_params.proofs.Fields.{field-value}
 use Rattle.excel97.specs.Open.{recordAt, blanked}
 use Rattle.excel97.specs.Demand3.{Bounds, boundsOf}
 use Rattle.survey.proofs.Records.{filepass-here, filepass-on, located, clear-within}
-use Rattle.excel97.proofs.Records.{Reached, reached-none, reached-on, reached-fault, record-here}
+use Rattle.excel97.proofs.Records.{Reached, reached-none, reached-on, reached-fault, reached-end, in-none, record-here}
 use Rattle.excel97.proofs.Blanked.{blank-before, blank-id, blank-length, blank-behind}
 
 -- the id that a header has in the plain stream, by its offset and its id in the stream
@@ -43,7 +42,7 @@ module _ (s : List ℕ) where
   -- the id and the length of a record are its header's two fields
   header-fields : (at id len : ℕ) → stepAt s at ≡ step.Record id len → (id ≡ le16 s at) × (len ≡ le16 s (at + 2))
   header-fields at id len e =
-      let there = record-there s at id len e in (field-value s at id (there .id-there), field-value s (at + 2) len (there .len-there))
+      let there = record-there s at id len e in (le16-is s at id (there .id-there), le16-is s (at + 2) len (there .len-there))
 
   -- the first FILEPASS is the first from an offset on, or no offset from there on is zeroed
   pub data Sits (f : Option BiffRecord) (at : ℕ) : Type 0 where
@@ -78,11 +77,37 @@ module _ (s : List ℕ) where
     record-kept n (ahead g) o h k = rw (g ∙ filepass-on s at id len e n) (before-next (filepass (walkAt s (at + 4 + len) .records)) refl o k)
     record-kept n (passed g) o h k = g o h
 
-  -- any bytes that keep headers and clear parts, and are zero where a FILEPASS is zeroed
+  -- behind the records no offset lies in one, and none is zeroed
+  none-zeroed : (f : Option BiffRecord) (at : ℕ) → walkAt s at .records ≡ [] → Sits f at → (o : ℕ) → at ≤ o → blanked f o ≡ false
+  unfolding filepass
+  none-zeroed f at e (ahead g) o h = rw (g ∙ ap filepass e)
+  none-zeroed f at e (passed g) o h = g o h
+
+  abbrev Behind : ℕ → Type 0
+  Behind o = (recordAt (walk s .records) o ≡ none) × (blanked (filepass (walk s .records)) o ≡ false)
+
+  nothing-left : (at : ℕ) → walkAt s at .records ≡ [] → Reached s at → Sits (filepass (walk s .records)) at → (o : ℕ) → recordsEnd s ≤ o → Behind o
+  nothing-left at e w f o h =
+      let here = reached-end s at w e in
+      (in-none s at w e o (omega arith), none-zeroed (filepass (walk s .records)) at e f o (omega arith))
+
+  pub behind-records : (o : ℕ) → recordsEnd s ≤ o → Behind o
+  behind-records =
+      along s (λ (at : ℕ). Reached s at → Sits (filepass (walk s .records)) at → (o : ℕ) → recordsEnd s ≤ o → Behind o)
+      (λ at e. nothing-left at (records-end s at e))
+      (λ at p e. nothing-left at (records-fault s at p e))
+      (λ at id len e again w f. again (reached-on s at id len w e) (sits-on (filepass (walk s .records)) at id len e f))
+      0
+      (omega arith)
+      (reached-none s)
+      (ahead refl)
+
+  -- any bytes that keep headers, clear parts and padding, and are zero where a FILEPASS is zeroed
   module _ (d : List ℕ) (size : length d ≡ length s) (clean : walk s .ends ≡ end.Clean)
       (own : (r : BiffRecord) (o : ℕ) → recordAt (walk s .records) o ≡ some r → o < r .at + 4 + clearLen (r .id) (r .len) → blanked (filepass (walk s .records)) o ≡ false
       → getD d o 0 ≡ getD s o 0)
-      (zeroed : (o : ℕ) → o < length s → blanked (filepass (walk s .records)) o ≡ true → getD d o 0 ≡ 0) where
+      (zeroed : (o : ℕ) → o < length s → blanked (filepass (walk s .records)) o ≡ true → getD d o 0 ≡ 0)
+      (kept : (o : ℕ) → recordsEnd s ≤ o → o < length s → getD d o 0 ≡ getD s o 0) where
     abbrev first : Option BiffRecord
     first = filepass (walk s .records)
 
@@ -122,11 +147,11 @@ module _ (s : List ℕ) where
           (λ n. left 0 id (rw (ne-eqb id 0x002F n)) ∙ own-id (record-kept first at id len e n f at (omega arith) (omega arith))
           (record-kept first at id len e n f (at + 1) (omega arith) (omega arith)))
       same-id (passed g) =
-          left 0 id (rw (g at (omega arith)) (none-zeroed (eqb id 0x002F))) ∙ own-id (g at (omega arith)) (g (at + 1) (omega arith))
+          left 0 id (rw (g at (omega arith)) (neither (eqb id 0x002F))) ∙ own-id (g at (omega arith)) (g (at + 1) (omega arith))
         where
-          none-zeroed : (t : Bool) → (t && false) ≡ false
-          none-zeroed true = refl
-          none-zeroed false = refl
+          neither : (t : Bool) → (t && false) ≡ false
+          neither true = refl
+          neither false = refl
 
       header-there : (two.Value (unlocked first at id) ≡ le16At d at) × (two.Value len ≡ le16At d (at + 2))
       header-there =
@@ -161,6 +186,9 @@ module _ (s : List ℕ) where
         none-there : (r : BiffRecord) {rs : List BiffRecord} → rs ≡ [] → List·Memᴰ r rs → ⊥
         none-there r e i = List·Memᴰ·not-nil (rw e at i)
 
+    from-end : (o : ℕ) → recordsEnd s ≤ o → getD d o 0 ≡ getD s o 0
+    from-end o h = either (length s) o (λ k. List·getD-eq-default d 0 (omega arith) ∙ sym (List·getD-eq-default s 0 k)) (kept o h)
+
     -- the walk of those bytes is the stream's own, in which the first FILEPASS has id 0000
     pub same-records : (walk d .records ≡ renamed (unlocked first) (walk s .records)) × (walk d .ends ≡ walk s .ends)
     same-records =
@@ -168,6 +196,7 @@ module _ (s : List ℕ) where
         (λ at id len k e. (reached-on s at id len (k .0) e, sits-on first at id len e (k .1)))
         (λ at p k e. reached-fault s at (k .0) p e clean)
         (λ at id len k e. header-there at id len (k .0) (k .1) e)
+        (λ at k e o h. let here = reached-end s at (k .0) (records-end s at e) in from-end o (omega arith))
         (reached-none s, ahead refl)
 
     pub same-bounds : (boundsOf (walk d .records) ≡ boundsOf (walk s .records)) × (walk d .ends ≡ walk s .ends)

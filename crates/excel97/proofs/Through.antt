@@ -1,24 +1,23 @@
 -- The loops that write the output record by record: what is written up to a record, and the record itself, is what is written up to the next one.
 -- Assumes nothing.
-use mathlib.Core.Path.{_≡_, refl, sym, ap, _∙_}
-use mathlib.Core.Bool.{Bool, true, false}
+use mathlib.Core.Path.{_≡_, sym, ap, _∙_}
 use mathlib.Core.List.{List, _++_}
-use mathlib.Core.Option.{Option, none, some}
+use mathlib.Core.Option.{Option, some}
 use Prim.Native.Nat.{ℕ, _+_, _-_, _≤_, _<_, min}
 use native.Mathlib.Omega.{arith}
 use borrow.Author.Tests.{lt-ltb, le-ltb}
 use lib.ListN.{length, getD, take, drop}
-use Rattle.laws.specs.Choice.{pick}
 use Rattle.laws.proofs.Choice.{taken, left, either}
 use Rattle.laws.proofs.Written.{Written, written-join}
 use Rattle.binary_office.specs.declared.Step.the-variants as step
-use Rattle.binary_office.specs.Walk.{BiffRecord, stepAt, walk, clearLen}
+use Rattle.binary_office.specs.Walk.{BiffRecord, stepAt, clearLen}
+use Rattle.binary_office.proofs.Along.{records-end}
 use Rattle.xor_obfuscation.specs.Xor.{deciphered, Deciphers}
 use Rattle.block_keys.proofs.Parts.{written-by, lent-part, part-size}
-use Rattle.excel97.specs.Open.{recordAt, inRecord, xorByte}
+use Rattle.excel97.specs.Open.{inRecord, xorByte}
 use Rattle.excel97.specs.Steps.{throughAt}
 use Rattle.survey.proofs.Records.{clear-within}
-use Rattle.excel97.proofs.Records.{Reached, record-here}
+use Rattle.excel97.proofs.Records.{Reached, in-none, record-here}
 
 -- a byte of a record: its own in header and clear part, else deciphered
 module _ (f : BiffRecord → ℕ → ℕ → ℕ) (r : BiffRecord) (o x : ℕ) where
@@ -40,6 +39,16 @@ module _ (s : List ℕ) (f : BiffRecord → ℕ → ℕ → ℕ) (at id len : �
       written-join (throughAt s f) 0 at (at + 4 + len) d d₁ d₂ (omega arith) (omega arith) before
       (written-by (λ (o : ℕ). inRecord f (some (record { at = at; id = id; len = len })) o (getD s o 0)) (throughAt s f) at (at + 4 + len) d₁ d₂
       (λ o h k. sym (here o h k)) v)
+
+-- behind the records the stream's own bytes are written
+pub through-rest : (s : List ℕ) (f : BiffRecord → ℕ → ℕ → ℕ) (at : ℕ) → Reached s at → stepAt s at ≡ step.End → (d d₁ d₂ : List ℕ)
+    → Written (throughAt s f) 0 at d d₁ → Written (λ (o : ℕ). getD s o 0) at (length s) d₁ d₂ → Written (throughAt s f) 0 (length s) d d₂
+through-rest s f at w e d d₁ d₂ before v =
+    let i = w .inside in
+    let none-left = records-end s at e in
+    written-join (throughAt s f) 0 at (length s) d d₁ d₂ (omega arith) i before
+    (written-by (λ (o : ℕ). getD s o 0) (throughAt s f) at (length s) d₁ d₂
+    (λ o h k. sym (ap (λ (r : Option BiffRecord). inRecord f r o (getD s o 0)) (in-none s at w none-left o h))) v)
 
 -- a record of which only header and clear part are written, over what the output held
 module _ (s : List ℕ) (at id len : ℕ) (w : Reached s at) (e : stepAt s at ≡ step.Record id len) (d d₁ d₂ : List ℕ) (n : ℕ) (en : n ≡ at + 4 + clearLen id len) where

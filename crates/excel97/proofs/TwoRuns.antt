@@ -93,6 +93,7 @@ demand-3 stream scratch output p q a b scratch₁ output₁ scratch₂ output₂
       passed-report = λ x y e g. u .told x e ∙ sym (v .told y g);
       passed-scratch = λ x y e g. u .scratch-is ∙ sym (v .scratch-is);
       passed-rest = λ x y e g. u .rest x e ∙ sym (v .rest y g);
+      passed-padding = λ x y e g o h k. u .plain-is x e .padded o h k ∙ sym (v .plain-is y g .padded o h k);
       plain-first = u .plain-is;
       plain-second = v .plain-is;
     }

@@ -1,4 +1,4 @@
--- Demand 3: two passwords can part what is seen only by whether the check passes. Over any two runs that the contract of `open` allows.
+-- Demand 3, with document 02's T-05: two passwords can part what is seen only by whether the check passes. Over any two runs that the contract of `open` allows.
 -- Assumes nothing.
 use mathlib.Core.Path.{_≡_}
 use Prim.Native.Nat.{ℕ, _+_, _≤_, _<_}
@@ -8,7 +8,7 @@ use mathlib.Core.Option.{some}
 use lib.Bits.{bitXor}
 use lib.ListN.{length, getD, take, drop}
 use Rattle.sensitive.specs.Utf8.{wellFormed}
-use Rattle.binary_office.specs.Walk.{BiffRecord, walk, clearLen}
+use Rattle.binary_office.specs.Walk.{BiffRecord, walk, recordsEnd, clearLen}
 use Rattle.file_params.specs.declared.Refusal.{Refusal}
 use Rattle.file_params.specs.Refusal.{number}
 use Rattle.file_params.specs.Questions.{filepass, filepassBody, structureOf}
@@ -28,16 +28,23 @@ abbrev pub boundsOf : List BiffRecord → List Bounds
 boundsOf [] = []
 boundsOf (r ∷ rs) = record { header = r .at; end = r .at + 4 + r .len } ∷ boundsOf rs
 
+-- where an offset of a stream lies: in a record or, as one of at most three zero bytes behind the records, in the padding (document 02, T-05)
+pub data Place (stream : List ℕ) (o : ℕ) : Type 0 where
+  in-record : (r : BiffRecord) → recordAt (walk stream .records) o ≡ some r → Place stream o
+  in-padding : recordsEnd stream ≤ o → length stream ≤ recordsEnd stream + 3 → getD stream o 0 ≡ 0 → Place stream o
+
 -- what one run leaves, where it opened the stream under a password with a report
 pub record Plain (stream password output′ : List ℕ) (told : Report) : Type 0 where
   -- "Up to there each output has the stream's record bounds,"
   pub bounds : boundsOf (walk (take (length stream) output′) .records) ≡ boundsOf (walk stream .records)
   pub ends : walk (take (length stream) output′) .ends ≡ walk stream .ends
-  -- every byte up to there lies in a record, so that what follows speaks of each of them
-  pub covered : (o : ℕ) → o < length stream → (r : BiffRecord) × (recordAt (walk stream .records) o ≡ some r)
+  -- every byte up to there lies in a record or in the padding, so that what follows speaks of each of them
+  pub covered : (o : ℕ) → o < length stream → Place stream o
   -- "and the stream's own bytes in every header and clear part,"
   pub own : (r : BiffRecord) (o : ℕ) → recordAt (walk stream .records) o ≡ some r → o < r .at + 4 + clearLen (r .id) (r .len)
       → blanked (filepass (walk stream .records)) o ≡ false → getD output′ o 0 ≡ getD stream o 0
+  -- document 02, T-05: the padding "stands with the bytes that stay the stream's own, under RC4 too"
+  pub padded : (o : ℕ) → recordsEnd stream ≤ o → o < length stream → getD output′ o 0 ≡ getD stream o 0
   -- "save that the first FILEPASS has its id and body zeroed."
   pub zeroed : (o : ℕ) → o < length stream → blanked (filepass (walk stream .records)) o ≡ true → getD output′ o 0 ≡ 0
   -- "Under RC4 each other byte up to there equals the stream's byte exclusive-or the keystream byte for its offset, which password, salt, lock, key size and
@@ -70,6 +77,9 @@ pub record Demand3 (stream scratch output p q : List ℕ) (a b : Answer) (scratc
   pub passed-report : (x y : Report) → a ≡ Opened x → b ≡ Opened y → x ≡ y
   pub passed-scratch : (x y : Report) → a ≡ Opened x → b ≡ Opened y → scratch₁ ≡ scratch₂
   pub passed-rest : (x y : Report) → a ≡ Opened x → b ≡ Opened y → drop (length stream) output₁ ≡ drop (length stream) output₂
+  -- document 02, T-05: "a reader with two passwords may still rely on the padding coming out equal"
+  pub passed-padding : (x y : Report) → a ≡ Opened x → b ≡ Opened y → (o : ℕ) → recordsEnd stream ≤ o → o < length stream
+      → getD output₁ o 0 ≡ getD output₂ o 0
   -- the last two sentences, of each
   pub plain-first : (x : Report) → a ≡ Opened x → Plain stream p output₁ x
   pub plain-second : (x : Report) → b ≡ Opened x → Plain stream q output₂ x

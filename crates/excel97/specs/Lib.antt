@@ -1,4 +1,5 @@
 pub mod Books
 pub mod Demand3
 pub mod Open
+pub mod Padded
 pub mod Steps

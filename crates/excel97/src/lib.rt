@@ -148,7 +148,7 @@ fn unxor_record(stream: &[u8], array: &[u8; 16], at: usize, id: u16, len: u16, o
     );
 }
 
-// Deciphers a stream under XOR, record by record.
+// Deciphers a stream under XOR, record by record; padding is the stream's own.
 fn unxor(stream: &[u8], array: &[u8; 16], output: &mut [u8])
     requires { ⌜ (walk (now stream) .ends ≡ Clean) × (length (now stream) ≤ length (now output)) ⌝ }
     ensures { λ _. ⌜ Written (throughAt (now (stream .entry)) (xorByte (now (array .entry)))) 0 (length (now (stream .entry))) (now (output .entry)) (now (output .exit)) ⌝ }
@@ -161,12 +161,15 @@ fn unxor(stream: &[u8], array: &[u8; 16], output: &mut [u8])
                 at = at + 4 + (len as usize);
             }
             binary_office::Step::Fault(_) => return,
-            binary_office::Step::End => return,
+            binary_office::Step::End => {
+                copy(stream, at, stream.len(), output);
+                return;
+            }
         }
     }
 }
 
-// Puts the headers and clear parts back into a stream whose every byte was deciphered.
+// Puts the headers, the clear parts and the padding back into a stream whose every byte was deciphered.
 fn restore(stream: &[u8], output: &mut [u8])
     requires { ⌜ (walk (now stream) .ends ≡ Clean) × (length (now stream) ≤ length (now output)) ⌝ }
     ensures { λ _. ⌜ Written (throughAt (now (stream .entry)) (λ (r : BiffRecord) (o x : ℕ). getD (now (output .entry)) o 0)) 0 (length (now (stream .entry))) (now (output .entry)) (now (output .exit)) ⌝ }
@@ -180,7 +183,11 @@ fn restore(stream: &[u8], output: &mut [u8])
                 at = at + 4 + (len as usize);
             }
             binary_office::Step::Fault(_) => return,
-            binary_office::Step::End => return,
+            binary_office::Step::End => {
+                let end = stream.len();
+                copy(stream, at, end, output);
+                return;
+            }
         }
     }
 }
@@ -211,8 +218,8 @@ fn unlock_xor(stream: &[u8], at: usize, len: u16, password: &[u8], output: &mut 
     true
 }
 
-// Deciphers a stream under RC4: every byte, and then headers and clear parts are put back. Tells how many block keys
-// were derived.
+// Deciphers a stream under RC4: every byte, and then headers, clear parts and padding are put back. Tells how many block
+// keys were derived.
 fn unrc4(stream: &[u8], schedule: block_keys::Schedule, output: &mut [u8]) -> usize
     requires { ⌜ (walk (now stream) .ends ≡ Clean) × (length (now stream) ≤ length (now output)) ⌝ }
     ensures { λ r. ⌜ (r ≡ startedBlocks 1024 (length (now (stream .entry)))) × Written (throughAt (now (stream .entry)) (λ (r : BiffRecord) (o x : ℕ). bitXor x (keystreamAt 1024 (blockKey schedule) o))) 0 (length (now (stream .entry))) (now (output .entry)) (now (output .exit)) ⌝ }

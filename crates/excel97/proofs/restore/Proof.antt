@@ -1,7 +1,7 @@
--- `excel97::restore` meets its contract: the records up to the offset have their own headers and clear parts again.
+-- `excel97::restore` meets its contract: the records up to the offset have their own headers and clear parts again, and at the end the padding is put back.
 -- Assumes nothing.
-use mathlib.Core.Path.{_≡_, refl, sym, ap, _∙_}
-use Prim.Native.Nat.{ℕ, _+_, _-_, _≤_}
+use mathlib.Core.Path.{sym, ap, _∙_}
+use Prim.Native.Nat.{ℕ, _+_, _-_}
 use native.Mathlib.Omega.{arith}
 use lib.ListN.{length, getD}
 use Rattle.laws.proofs.Written.{Written, written-none}
@@ -9,9 +9,9 @@ use Rattle.binary_office.specs.Walk.{BiffRecord}
 use Rattle.binary_office.proofs.Walks.{record-within}
 use Rattle.excel97.specs.Steps.{throughAt}
 use Rattle.survey.proofs.Records.{clear-within}
-use Rattle.excel97.proofs.Records.{Reached, reached-none, reached-on, reached-fault, reached-end}
+use Rattle.excel97.proofs.Records.{Reached, reached-none, reached-on, reached-fault}
 use borrow.Author.Needs.{needs}
-use Rattle.excel97.proofs.Through.{through-kept}
+use Rattle.excel97.proofs.Through.{through-kept, through-rest}
 use Rattle.excel97.proofs.restore.Statement.{statement}
 use Rattle.excel97.proofs.restore.Tie as tie
 
@@ -73,16 +73,33 @@ returns c =
     absurd (reached-fault (start .args .stream .now) (at-loop .loop .at) (at-loop .loop .inv .0) _ (sym (at-step-at .step-at .ensures) ∙ c .enum-told .given .1)
     (start .pre .0))
 
+copy-requires-2 : tie.Need-copy-requires-2 Inv-loop μ-loop
+copy-requires-2 c κs =
+    let at-loop = c .before .before .before .before in
+    let start = at-loop .before .before .before in
+    let i = at-loop .loop .inv .0 .inside in
+    let w = at-loop .loop .inv .1 .same in
+    let p = start .pre .1 in
+    (omega arith, omega arith, omega arith)
+
 same-length-2 : tie.Need-same-length-2 Inv-loop μ-loop
-same-length-2 c = c .before .before .before .loop .inv .1 .same
+same-length-2 c =
+    let at-copy = c .before .before in
+    let at-enum-told = at-copy .before .before in
+    let at-loop = at-enum-told .before .before .before in
+    at-copy .copy2 .ensures .same ∙ at-loop .loop .inv .1 .same
 
 returns-2 : tie.Need-returns-2 Inv-loop μ-loop
 returns-2 c =
-    let at-step-at = c .before .before in
+    let at-copy = c .before .before in
+    let at-enum-told = at-copy .before .before in
+    let at-step-at = at-enum-told .before .before in
     let at-loop = at-step-at .before in
     let loop = at-loop .loop in
     let start = at-loop .before .before .before in
-    rw (← reached-end (start .args .stream .now) (loop .at) (loop .inv .0) (sym (at-step-at .step-at .ensures) ∙ c .enum-told2 .given .1)) (loop .inv .1)
+    through-rest (start .args .stream .now) (λ (r : BiffRecord) (o x : ℕ). getD (start .args .output .now) o 0) (loop .at) (loop .inv .0)
+    (sym (at-step-at .step-at .ensures) ∙ at-enum-told .enum-told2 .given .1) (start .args .output .now) (loop .output) _ (loop .inv .1)
+    (at-copy .copy2 .ensures)
 
 pub restore-spec : {M : Type 1} → statement M
 restore-spec =
@@ -107,5 +124,6 @@ restore-spec =
     same-length
     returns
     (λ c. search needs)
+    copy-requires-2
     same-length-2
     returns-2)

@@ -1,16 +1,16 @@
--- `excel97::unxor` meets its contract: the records up to the offset are written.
+-- `excel97::unxor` meets its contract: the records up to the offset are written, and at the end the padding.
 -- Assumes nothing.
-use mathlib.Core.Path.{_≡_, refl, sym, _∙_}
-use Prim.Native.Nat.{ℕ, _-_, _≤_}
+use mathlib.Core.Path.{sym, _∙_}
+use Prim.Native.Nat.{_-_}
 use native.Mathlib.Omega.{arith}
 use lib.ListN.{length}
 use Rattle.laws.proofs.Written.{Written, written-none}
 use Rattle.binary_office.proofs.Walks.{record-within}
 use Rattle.excel97.specs.Open.{xorByte}
 use Rattle.excel97.specs.Steps.{throughAt}
-use Rattle.excel97.proofs.Records.{Reached, reached-none, reached-on, reached-fault, reached-end}
+use Rattle.excel97.proofs.Records.{Reached, reached-none, reached-on, reached-fault}
 use borrow.Author.Needs.{needs}
-use Rattle.excel97.proofs.Through.{through-record}
+use Rattle.excel97.proofs.Through.{through-record, through-rest}
 use Rattle.excel97.proofs.unxor.Statement.{statement}
 use Rattle.excel97.proofs.unxor.Tie as tie
 
@@ -68,16 +68,33 @@ returns c =
     absurd (reached-fault (start .args .stream .now) (at-loop .loop .at) (at-loop .loop .inv .0) _ (sym (at-step-at .step-at .ensures) ∙ c .enum-told .given .1)
     (start .pre .0))
 
+copy-requires : tie.Need-copy-requires Inv-loop μ-loop
+copy-requires c κs =
+    let at-loop = c .before .before .before .before in
+    let start = at-loop .before .before .before in
+    let i = at-loop .loop .inv .0 .inside in
+    let w = at-loop .loop .inv .1 .same in
+    let p = start .pre .1 in
+    (omega arith, omega arith, omega arith)
+
 same-length-2 : tie.Need-same-length-2 Inv-loop μ-loop
-same-length-2 c = c .before .before .before .loop .inv .1 .same
+same-length-2 c =
+    let at-copy = c .before .before in
+    let at-enum-told = at-copy .before .before in
+    let at-loop = at-enum-told .before .before .before in
+    at-copy .copy .ensures .same ∙ at-loop .loop .inv .1 .same
 
 returns-2 : tie.Need-returns-2 Inv-loop μ-loop
 returns-2 c =
-    let at-step-at = c .before .before in
+    let at-copy = c .before .before in
+    let at-enum-told = at-copy .before .before in
+    let at-step-at = at-enum-told .before .before in
     let at-loop = at-step-at .before in
     let loop = at-loop .loop in
     let start = at-loop .before .before .before in
-    rw (← reached-end (start .args .stream .now) (loop .at) (loop .inv .0) (sym (at-step-at .step-at .ensures) ∙ c .enum-told2 .given .1)) (loop .inv .1)
+    through-rest (start .args .stream .now) (xorByte (start .args .array .now)) (loop .at) (loop .inv .0)
+    (sym (at-step-at .step-at .ensures) ∙ at-enum-told .enum-told2 .given .1) (start .args .output .now) (loop .output) _ (loop .inv .1)
+    (at-copy .copy .ensures)
 
 pub unxor-spec : {M : Type 1} → statement M
 unxor-spec =
@@ -98,5 +115,6 @@ unxor-spec =
     same-length
     returns
     (λ c. search needs)
+    copy-requires
     same-length-2
     returns-2)
