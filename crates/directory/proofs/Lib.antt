@@ -6,3 +6,4 @@ pub mod Records
 pub mod SameDirectory
 pub mod Search
 pub mod Tallied
+pub mod TwoBooks

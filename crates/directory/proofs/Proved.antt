@@ -35,6 +35,7 @@ use Rattle.directory.proofs.Balance.{counted}
 use Rattle.directory.proofs.Checks.{length-starts}
 use Rattle.directory.proofs.Records.{false-true}
 use Rattle.directory.proofs.SameDirectory.{no-unfit, no-unpaired, same-directory}
+use Rattle.directory.proofs.TwoBooks.{two-books}
 
 no-start : {q : ℕ} → At q ≡ Nothing → ⊥
 no-start z = let y : _≡_ {A = ℕ} 0 1 = cc in omega arith
@@ -291,6 +292,7 @@ module _ (s p scratch output : List ℕ) (told : Report) (scratch′ output′ :
       same-directory s (take (length s) output′) (length-take-le (length s) output′ room) clean-walk
       (λ r o e h g. byte o (in-stream s r o e) ∙ is-plain .own r o e h g)
       (λ o h e. byte o h ∙ is-plain .zeroed o h e)
+      (λ o h k. byte o k ∙ is-plain .padded o h k)
 
 pub directories : Directories
 unfolding checks inOrder ofSheets
@@ -301,5 +303,6 @@ directories =
       refused-28 = by-28;
       refused-29 = by-29;
       numbered = λ s. refl;
+      of-padded = two-books;
       plain-same = plain-directory;
     }

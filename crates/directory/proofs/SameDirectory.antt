@@ -12,13 +12,11 @@ use lib.Dec.{eqb, leb}
 use lib.ListN.{length, getD}
 use Rattle.laws.specs.Choice.{pick}
 use Rattle.word.specs.Word.{le32}
-use Rattle.binary_office.specs.declared.WalkEnd.{WalkEnd}
 use Rattle.binary_office.specs.declared.WalkEnd.the-variants as end
-use Rattle.binary_office.specs.Walk.{BiffRecord, walk, clearLen}
+use Rattle.binary_office.specs.Walk.{BiffRecord, walk, recordsEnd, clearLen}
 use Rattle.binary_office.proofs.Renamed.{renamed}
 use Rattle.file_params.specs.declared.Refusal.{Refusal}
-use Rattle.file_params.specs.declared.Refusal.the-variants.{BiffRecordUnreadable, WorkbookBofMissing, BoundSheetStart, BofEofUnpaired}
-use Rattle.file_params.specs.Questions.{Question, ask, asked, streamFits, inOrder, clean, faultAt, startsBof, isSome, orZero, filepass}
+use Rattle.file_params.specs.Questions.{Question, asked, streamFits, inOrder, startsBof, isSome, filepass}
 use Rattle.excel97.specs.Open.{recordAt, blanked}
 use Rattle.file_params.proofs.Laws.{none-of-both, first-yes, rest-yes}
 use Rattle.excel97.proofs.SameBounds.{unlocked, own-bytes, same-records}
@@ -142,11 +140,12 @@ module _ (s : List ℕ) (e : asked (checks s) ≡ none) where
   unfolding ofSheets
   no-unpaired = found-none (unpaired (length s) 0 (walk s .records)) (first-yes _ [] (rest-yes _ _ sheets-passed))
 
--- any bytes that keep headers and clear parts, and are zero where a FILEPASS is zeroed
+-- any bytes that keep headers, clear parts and padding, and are zero where a FILEPASS is zeroed
 module _ (s d : List ℕ) (size : length d ≡ length s) (ended : walk s .ends ≡ end.Clean)
     (own : (r : BiffRecord) (o : ℕ) → recordAt (walk s .records) o ≡ some r → o < r .at + 4 + clearLen (r .id) (r .len) → blanked (filepass (walk s .records)) o ≡ false
     → getD d o 0 ≡ getD s o 0)
-    (zeroed : (o : ℕ) → o < length s → blanked (filepass (walk s .records)) o ≡ true → getD d o 0 ≡ 0) where
+    (zeroed : (o : ℕ) → o < length s → blanked (filepass (walk s .records)) o ≡ true → getD d o 0 ≡ 0)
+    (kept : (o : ℕ) → recordsEnd s ≤ o → o < length s → getD d o 0 ≡ getD s o 0) where
   abbrev all : List BiffRecord
   all = walk s .records
 
@@ -154,7 +153,7 @@ module _ (s d : List ℕ) (size : length d ≡ length s) (ended : walk s .ends �
   new = unlocked (filepass all)
 
   records-are : walk d .records ≡ renamed new all
-  records-are = same-records s d size ended own zeroed .0
+  records-are = same-records s d size ended own zeroed kept .0
 
   four-clear : (len : ℕ) → 4 ≤ len → clearLen 0x0085 len ≡ 4
   unfolding clearLen pick
@@ -174,7 +173,7 @@ module _ (s d : List ℕ) (size : length d ≡ length s) (ended : walk s .ends �
       byte : (List·Memᴰ r all) × (r .id ≡ 0x0085) → (o : ℕ) → r .at + 4 ≤ o → o < r .at + 8 → getD d o 0 ≡ getD s o 0
       byte m o a b =
           let c : clearLen (r .id) (r .len) ≡ 4 = rw (m .1) (four-clear (r .len) h) in
-          own-bytes s d size ended own zeroed r (m .0) (other (m .1)) o (omega arith) (omega arith)
+          own-bytes s d size ended own zeroed kept r (m .0) (other (m .1)) o (omega arith) (omega arith)
 
   same-sheets : boundSheets (walk d .records) ≡ renamed new (boundSheets all)
   same-sheets = ap boundSheets records-are ∙ sheets-renamed new (keeps (filepass all)) all
@@ -188,7 +187,7 @@ module _ (s d : List ℕ) (size : length d ≡ length s) (ended : walk s .ends �
       ∙ unfit-renamed new (keeps (filepass all)) s d all (walk d .records) same-bof (boundSheets all) same-start
 
   same-ends : walk d .ends ≡ walk s .ends
-  same-ends = same-records s d size ended own zeroed .1
+  same-ends = same-records s d size ended own zeroed kept .1
 
   same-first : startsBof (walk d .records) ≡ startsBof all
   same-first = ap startsBof records-are ∙ starts-renamed new (keeps (filepass all)) all
