@@ -20,7 +20,7 @@ use Rattle.survey.specs.Survey.{encipheredLen, encipheredBytes}
 use Rattle.survey.proofs.Records.{clear-within}
 use Rattle.survey.proofs.Tallied.{bytes-more}
 use Rattle.excel97.specs.Open.{recordAt, blanked}
-use Rattle.excel97.proofs.Records.{Reached, reached-none, reached-on, reached-end, record-here}
+use Rattle.excel97.proofs.Records.{Reached, reached-none, reached-on, in-none, record-here}
 use Rattle.excel97.proofs.SameBounds.{Sits, ahead, sits-on, record-kept}
 use Rattle.forecast.specs.Theorems.{deciphers, count}
 
@@ -105,13 +105,21 @@ module _ (s : List ℕ) where
   unfolding encipheredBytes
   none-left at e n en = rw (e, en) (add-zero (count (deciphers s) at))
 
+  nothing-left : (at : ℕ) → Reached s at → walkAt s at .records ≡ []
+      → count (deciphers s) at + encipheredBytes (walkAt s at .records) ≡ count (deciphers s) (length s)
+  nothing-left at w e =
+      let i = w .inside in
+      let n : length s ≡ at + (length s - at) = omega arith in
+      none-left at e _ refl
+      ∙ sym (ap (count (deciphers s)) n ∙ count-none (deciphers s) at (length s - at) (λ o h k. nowhere o (in-none s at w e o h)))
+
   pub all-counted : count (deciphers s) (length s) ≡ encipheredBytes (walk s .records)
   unfolding recordAt count
   all-counted =
       sym
       (along s (λ (at : ℕ). Reached s at → Sits s first at → count (deciphers s) at + encipheredBytes (walkAt s at .records) ≡ count (deciphers s) (length s))
-      (λ at e w f. none-left at (records-end s at e) _ refl ∙ ap (count (deciphers s)) (reached-end s at w e))
-      (λ at p e w f. none-left at (records-fault s at p e) _ refl ∙ sym (past at w (records-fault s at p e)))
+      (λ at e w f. nothing-left at w (records-end s at e))
+      (λ at p e w f. nothing-left at w (records-fault s at p e))
       (λ at id len e again w f.
       let next = again (reached-on s at id len w e) (sits-on s first at id len e f) in
       let here = one-record at id len w f e in
@@ -122,7 +130,3 @@ module _ (s : List ℕ) where
       (reached-none s)
       (ahead refl))
       ∙ zero-add (encipheredBytes (walk s .records))
-    where
-      past : (at : ℕ) → Reached s at → walkAt s at .records ≡ [] → count (deciphers s) (length s) ≡ count (deciphers s) at
-      past at w e = let i = w .inside in let n : length s ≡ at + (length s - at) = omega arith in
-          ap (count (deciphers s)) n ∙ count-none (deciphers s) at (length s - at) (λ o h k. nowhere o (w .rest o h ∙ rw e refl))

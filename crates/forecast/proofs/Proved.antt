@@ -12,7 +12,8 @@ use lib.Dec.{eqb, leb}
 use lib.ListN.{length}
 use Rattle.laws.specs.Choice.{pick}
 use Rattle.sensitive.specs.Utf8.{wellFormed}
-use Rattle.binary_office.specs.Walk.{walk}
+use Rattle.binary_office.specs.Walk.{zeroBytes, walk, remainder}
+use Rattle.binary_office.proofs.Remainder.{padded-length}
 use Rattle.file_params.specs.declared.Refusal.{Refusal}
 use Rattle.file_params.specs.Refusal.{number}
 use Rattle.file_params.specs.Questions.{asked, only, lent, inOrder, locked, book, encryptionType, version, office97, cryptoApi, rc4, lock, ofStream, streamFits, filepassBody, structureOf, typeOf, isOffice97, isCryptoApi}
@@ -27,12 +28,13 @@ use Rattle.excel97.specs.declared.Answer as excel97
 use Rattle.excel97.specs.declared.Answer.the-variants as answer
 use Rattle.excel97.specs.Open.{passes, xorReport, rc4Report, report, Opens}
 use Rattle.excel97.proofs.Answers.{earlier, empty-fine, decided, Ran, ran, refusing, not-last}
+use Rattle.excel97.proofs.Padded.{walked, same-body, same-questions}
 use Rattle.excel97.proofs.PlainBytes.{length-plain}
 use Rattle.excel97.proofs.Settled.{has-opened}
 use Rattle.forecast.specs.declared.Counts.{Counts}
 use Rattle.forecast.specs.declared.Answer.the-variants.{Told, Refused}
 use Rattle.forecast.specs.Forecast.{countsOf, answerBy, forecast}
-use Rattle.forecast.specs.Theorems.{AreCounts, SameCounts, SameRefusals, expected, Forecasts}
+use Rattle.forecast.specs.Theorems.{AreCounts, SameCounts, SameRefusals, paddedForecast, expected, Forecasts}
 use Rattle.forecast.proofs.Counted.{all-counted}
 use Rattle.forecast.proofs.Keys.{by-place, no-keys-used, keys-counted, keys-used}
 
@@ -132,6 +134,20 @@ numbered s = go (eqb (typeOf (filepassBody s)) 1) (isOffice97 (structureOf (file
     go true false false = refl
     go false u v = refl
 
+-- a book with padding behind it
+of-padded : (s : List ℕ) (n : ℕ) → remainder s ≡ [] → n ≤ 3 → length s + n ≤ 1073741824 → forecast (s ++ zeroBytes n) ≡ paddedForecast s n (forecast s)
+unfolding forecast countsOf
+of-padded s n filled most fits = ap (answerBy (countsOf (s ++ zeroBytes n))) same-alone ∙ by (asked (alone s))
+  where
+    same-alone : asked (alone (s ++ zeroBytes n)) ≡ asked (alone s)
+    same-alone =
+        let size = padded-length s n in
+        fitting (s ++ zeroBytes n) (omega arith) ∙ ap asked (same-questions s n filled most) ∙ sym (fitting s (omega arith))
+
+    by : (d : Option Refusal) → answerBy (countsOf (s ++ zeroBytes n)) d ≡ paddedForecast s n (answerBy (countsOf s) d)
+    by none = rw (walked s n filled most .records, same-body s n filled most, padded-length s n)
+    by (some r) = refl
+
 pub forecasts : Forecasts
 unfolding forecast
 forecasts =
@@ -142,5 +158,6 @@ forecasts =
       under-rc4 = keys-used;
       of-any-run = of-any-run;
       refused = λ s password scratch output a scratch′ output′ short fine room fits run. same-refusals s scratch output room fits password a scratch′ output′ short fine run;
+      of-padded = of-padded;
       numbered = numbered;
     }

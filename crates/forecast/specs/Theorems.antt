@@ -1,4 +1,4 @@
--- What request T-04 of document 02 says of the forecast, sentence by sentence: of the definition, and of any run that the contract of Open allows.
+-- What requests T-04 and T-05 of document 02 say of the forecast, sentence by sentence: of the definition, and of any run that the contract of Open allows.
 -- Assumes nothing.
 use mathlib.Core.Path.{_≡_}
 use Prim.Native.Nat.{ℕ, zero, suc, _+_, _*_, _/_, _%_, _≤_, _<_}
@@ -13,14 +13,14 @@ use Rattle.laws.specs.Offsets.{tabulate, mapAt}
 use Rattle.sensitive.specs.Utf8.{wellFormed}
 use Rattle.sensitive.specs.Ansi.{ansi}
 use Rattle.rc4.specs.Rc4.{keystreamByte}
-use Rattle.binary_office.specs.Walk.{BiffRecord, walk}
+use Rattle.binary_office.specs.Walk.{BiffRecord, zeroBytes, walk, remainder}
 use Rattle.file_params.specs.declared.Refusal.{Refusal}
 use Rattle.file_params.specs.Refusal.{number}
 use Rattle.file_params.specs.Questions.{filepass, filepassBody, typeOf, structureOf, isOffice97, isCryptoApi}
 use Rattle.file_params.specs.Numbers.{numbers}
 use Rattle.block_keys.specs.BlockKeys.{scheduleOf, blockKey, startedBlocks, digestBy, digestLen, agree, under}
 use Rattle.block_keys.specs.Lock.{lockOf, part, saltOf}
-use Rattle.survey.specs.Survey.{encipheredBytes, alone}
+use Rattle.survey.specs.Survey.{encipheredBytes, blockKeys, alone}
 use Rattle.excel97.specs.declared.Report.{Report}
 use Rattle.excel97.specs.declared.Answer as excel97
 use Rattle.excel97.specs.declared.Answer.the-variants as answer
@@ -80,8 +80,8 @@ pub record AreCounts (stream : List ℕ) (c : Counts) : Type 0 where
   pub summed : c .«enciphered_body_bytes» ≡ encipheredBytes (walk stream .records)
   -- "block keys derived": the length of the list of blocks whose key opening derives
   pub keys : c .«block_keys» ≡ length (keyed stream)
-  -- "the enciphered bytes and four for each record, together, are proved never to pass the stream's length"
-  pub within : c .«enciphered_body_bytes» + 4 * c .records ≤ length stream
+  -- "the enciphered bytes and four for each record, together, are proved never to pass the stream's length"; with the padding too (T-05)
+  pub within : c .«enciphered_body_bytes» + 4 * c .records + length (remainder stream) ≤ length stream
 
 -- "Open on success reports the same four"
 pub record SameCounts (c : Counts) (x : Report) : Type 0 where
@@ -122,6 +122,19 @@ expected type-1 is-1-1 is-cryptoApi =
     4 ∷ 6 ∷ 7 ∷ 8 ∷ 9 ∷ 10 ∷ 10 ∷ 11
     ∷ pick type-1 (12 ∷ 13 ∷ (pick is-1-1 (14 ∷ []) [] ++ pick is-cryptoApi (15 ∷ 16 ∷ 17 ∷ 18 ∷ 19 ∷ 20 ∷ 21 ∷ 22 ∷ 23 ∷ 24 ∷ 25 ∷ 26 ∷ []) [])) []
 
+-- document 02, T-05: "the directory and forecast accept it; output bytes and block keys count it": the forecast of a book with n bytes of padding behind it, by
+-- the forecast of the book
+abbrev pub paddedForecast : (stream : List ℕ) → (n : ℕ) → Answer → Answer
+paddedForecast stream n (Told c) =
+    Told
+    (record {
+      «output_bytes» = c .«output_bytes» + n;
+      records = c .records;
+      «enciphered_body_bytes» = c .«enciphered_body_bytes»;
+      «block_keys» = blockKeys (filepassBody stream) (c .«output_bytes» + n);
+    })
+paddedForecast stream n (Refused r) = Refused r
+
 pub record Forecasts : Type 0 where
   -- `byPlace` is the definition of the plain byte
   pub places : (stream password : List ℕ) (offset x : ℕ)
@@ -137,6 +150,9 @@ pub record Forecasts : Type 0 where
   pub refused : (stream password scratch output : List ℕ) (a : excel97.Answer) (scratch′ output′ : List ℕ)
       → length password ≤ 1024 → wellFormed password ≡ true → 2064 ≤ length scratch → length stream ≤ length output
       → Opens stream password scratch output a scratch′ output′ → SameRefusals (forecast stream) a
+  -- of a book that its records fill, up to 1 GiB with the padding
+  pub of-padded : (stream : List ℕ) (n : ℕ) → remainder stream ≡ [] → n ≤ 3 → length stream + n ≤ 1073741824
+      → forecast (stream ++ zeroBytes n) ≡ paddedForecast stream n (forecast stream)
   -- "the other questions don't arise"
   pub numbered : (stream : List ℕ)
       → let body = filepassBody stream in

@@ -4,6 +4,7 @@ use mathlib.Core.Path.{_≡_, refl, sym, ap}
 use mathlib.Core.List.{List}
 use Prim.Native.Nat.{ℕ, _+_, _*_, _≤_}
 use lib.ListN.{length, getD}
+use Rattle.binary_office.specs.Walk.{remainder}
 use Rattle.excel97.specs.declared.Answer.{Answer}
 use Rattle.excel97.specs.declared.Answer.the-variants.{Opened, Refused}
 use Rattle.excel97.specs.Open.{outcome, Opens}
@@ -18,7 +19,7 @@ use Rattle.sheet.proofs.Numbers.{not-refused}
 
 -- what a forecast tells lies within the stream
 in-stream : (stream : List ℕ) (f : forecast.Answer) → forecast stream ≡ f → forecastNumber f ≡ 0
-    → getD (forecastFacts f) 2 0 + 4 * getD (forecastFacts f) 1 0 ≤ length stream
+    → getD (forecastFacts f) 2 0 + 4 * getD (forecastFacts f) 1 0 + length (remainder stream) ≤ length stream
 in-stream stream (foretold.Told c) e z = forecasts .counts stream c e .within
 in-stream stream (foretold.Refused r) e z = not-refused r z
 

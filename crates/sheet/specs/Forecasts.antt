@@ -7,6 +7,7 @@ use mathlib.Core.Bool.{true}
 use mathlib.Core.List.{List}
 use lib.ListN.{length, getD}
 use Rattle.sensitive.specs.Utf8.{wellFormed}
+use Rattle.binary_office.specs.Walk.{remainder}
 use Rattle.forecast.specs.Forecast.{forecast}
 use Rattle.sheet.specs.Facts.{forecastNumber, forecastFacts, OpensInC}
 
@@ -23,8 +24,8 @@ pub record SameRefusal (n answer : ℕ) (foretold told : List ℕ) : Type 0 wher
   pub from : (answer ≡ 0 → ⊥) → (answer ≡ 27 → ⊥) → (n ≡ answer) × (foretold ≡ told)
 
 pub record ForecastsInC (stream password scratch output : List ℕ) (n answer : ℕ) (foretold told : List ℕ) : Type 0 where
-  -- facts[2] and four for each of facts[1] never pass the stream's length
-  pub within : n ≡ 0 → getD foretold 2 0 + 4 * getD foretold 1 0 ≤ length stream
+  -- facts[2], four for each of facts[1] and the padding never pass the stream's length
+  pub within : n ≡ 0 → getD foretold 2 0 + 4 * getD foretold 1 0 + length (remainder stream) ≤ length stream
   pub opened : answer ≡ 0 → (n ≡ 0) × SameFour foretold told
   pub refused : length password ≤ 1024 → wellFormed password ≡ true → 2064 ≤ length scratch → length stream ≤ length output → SameRefusal n answer foretold told
 
