@@ -4,10 +4,10 @@ use libc::STDOUT_FILENO;
 ghost use mathlib.Core.Path.{_≡_};
 ghost use lib.ListN.{length};
 
-fn data_buffer() -> [u8; 131072]
-    ensures { λ r. ⌜ 131072 ≡ length r ⌝ }
+fn data_buffer() -> [u8; 196608]
+    ensures { λ r. ⌜ 196608 ≡ length r ⌝ }
 {
-    [0; 131072]
+    [0; 196608]
 }
 
 // Writes the listing of a stream.
