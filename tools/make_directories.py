@@ -1,8 +1,8 @@
 #!/usr/bin/env python3
 """Writes the data of the program `directories`, crates/directories/data/cases, and what it is to print, crates/directories/stdout.
 
-Usage, at the root of the project: tools/make_directories.py. Needs OpenSSL's libcrypto. What is expected is computed here, from the words of request
-T-01, by code that shares nothing with the crates. Beside each stream made by hand stands what it must come to, the starts of the sheets or a refusal with
+Usage, at the root of the project: tools/make_directories.py. Needs OpenSSL's libcrypto. What is expected is computed here, from the words of requests
+T-01 and T-05, by code that shares nothing with the crates. Beside each stream made by hand stands what it must come to, the starts of the sheets or a refusal with
 its detail, and the script ends where the two differ. The locked streams are made from plain ones by books.py; the random ones come from a fixed seed.
 A stream too long for question 4 has no room here.
 
@@ -25,12 +25,13 @@ parts, lines, tally = [], [], collections.Counter()
 
 
 def walk(stream):
-    """The records, each as its offset, id and body, up to the end or to one that can't be walked, and the offset of that one, or None."""
+    """The records, each as its offset, id and body, up to the end or to one that can't be walked, and the offset of that one, or None. One to three bytes
+    behind the last record, all zero, are the end."""
     records, at = [], 0
     while at < len(stream):
         header = stream[at:at + 4]
         if len(header) < 4:
-            return records, at
+            return records, at if any(header) else None
         number, length = struct.unpack("<HH", header)
         body = stream[at + 4:at + 4 + length]
         if len(body) < length:
@@ -92,12 +93,12 @@ def sheet(start, rest=b""):
     return record(BOUND_SHEET, struct.pack("<I", start) + rest)
 
 
-# 6: what can't be walked
+# 6: what can't be walked; zeros behind the last record can
 for length in 1, 2, 3:
     case(f"a header of {length}", B[:length], (6, 0))
     case(f"a header of {length} behind BOF", B + E[:length], (6, 4))
     case(f"a header of {length} behind BOF and EOF", B + E + B[:length], (6, 8))
-    case(f"a pair of brackets and zero bytes, {length}", B + E + bytes(length), (6, 8))
+    case(f"a pair of brackets and zero bytes, {length}", B + E + bytes(length), [])
 case("the first body one byte short", record(BOF, bytes(16))[:-1], (6, 0))
 case("the last body one byte short", B + E + OTHER[:-1], (6, 8))
 case("the last body as long as the stream", B + E + OTHER, [])
@@ -253,12 +254,12 @@ def some(length, seed):
     return bytes((seed + 37 * k + (k >> 5)) % 256 for k in range(length))
 
 
-def both(name, lock, password, records, expected):
-    """A locked book and its plain form, which answer alike: `expected` tells how from where the records stand."""
+def both(name, lock, password, records, expected, rest=b""):
+    """A locked book and its plain form, which answer alike: `expected` tells how from where the records stand. `rest` stands behind both."""
     records, at = offsets([(FILEPASS, lock.filepass(password)) if r == (FILEPASS, b"") else r for r in records])
     locked, plain = book(lock, password, records)
-    case(f"{name}, locked", locked, expected(at))
-    case(f"{name}, plain", plain, expected(at))
+    case(f"{name}, locked", locked + rest, expected(at))
+    case(f"{name}, plain", plain + rest, expected(at))
 
 
 # locked books: a sheet with a chart in it and a second sheet, named out of order, the second twice
@@ -268,7 +269,8 @@ BOOK = [
     (BOF, some(16, 3)), (0x0203, some(14, 4)), (BOF, some(16, 5)), (0x1002, some(16, 6)), (EOF, b""), (EOF, b""),
     (BOF, some(16, 7)), (BOUND_SHEET, 14, b"\0"), (EOF, b"\7\7"),
 ]
-for name, lock, password in ("XOR", Xor(), Xor().passwords(8)[0]), ("1.1", Office97(), "calibre"), ("CryptoAPI", CryptoApi(), "calibre"):
+LOCKS = ("XOR", Xor(), Xor().passwords(8)[0]), ("1.1", Office97(), "calibre"), ("CryptoAPI", CryptoApi(), "calibre")
+for name, lock, password in LOCKS:
     both(f"{name}, four sheets", lock, password, BOOK, lambda at: [at[8], at[14], at[10], at[14]])
     both(f"{name}, three blocks", lock, password, BOOK[:6] + [(0x00FC, some(2100, 8))] + BOOK[7:], lambda at: [at[8], at[14], at[10], at[14]])
     both(f"{name}, no sheets", lock, password, BOOK[:3] + BOOK[7:9] + BOOK[16:], lambda at: [])
@@ -279,6 +281,43 @@ for name, lock, password in ("XOR", Xor(), Xor().passwords(8)[0]), ("1.1", Offic
     both(f"{name}, an EOF too many at the end", lock, password, BOOK + [(EOF, b"\7\7")], lambda at: (29, at[17]))
     both(f"{name}, the last left open", lock, password, BOOK[:16], lambda at: (29, at[16]))
     both(f"{name}, a bad start and a BOF left open", lock, password, BOOK[:5] + [(BOUND_SHEET, 7, b"")] + BOOK[6:16], lambda at: (28, at[5]))
+
+
+# padding: every remainder of one to three bytes, of zeros and others. Zeros leave the answer as it is, save that a BOF left open has the whole length
+REMAINDERS = [bytes(r) for length in (1, 2, 3) for r in itertools.product(*((0, other) for other in (0x2F, 0x01, 0x80)[:length]))]
+for rest in REMAINDERS:
+    for name, stream, told in (
+        ("nothing", b"", (7, 0)),
+        ("another first id", record(0x0808) + B + E, (7, 0)),
+        ("BOF and EOF", B + E, []),
+        ("two sheets", B + sheet(24) + sheet(32) + E + (B + E) * 2, [24, 32]),
+        ("a bad start", B + sheet(24) + sheet(25) + E + B + E, (28, 12)),
+        ("a start on the remainder", B + sheet(16) + E, (28, 4)),
+        ("an EOF too many", B + E + E + B, (29, 8)),
+        ("a BOF left open", B + E + B, (29, 12)),
+    ):
+        if any(rest):
+            told = 6, len(stream)
+        elif name == "a BOF left open":
+            told = 29, len(stream) + len(rest)
+        case(f"{rest.hex()} behind {name}", stream + rest, told)
+    case(f"{rest.hex()} in place of a body", B + E + struct.pack("<HH", 0x0042, len(rest) + 1) + rest, (6, 8))
+    case(f"{rest.hex()} in place of a BoundSheet8's body", B + E + struct.pack("<HH", BOUND_SHEET, 4) + rest, (6, 8))
+
+# four zeros are a record
+for zeros in range(4, 9):
+    case(f"{zeros} zeros alone", bytes(zeros), (7, 0))
+    case(f"{zeros} zeros behind BOF and EOF", B + E + bytes(zeros), [])
+    case(f"{zeros} zeros behind a BOF left open", B + bytes(zeros), (29, 4 + zeros))
+    case(f"{zeros} zeros behind a start on the first", B + sheet(16) + E + bytes(zeros), (28, 4))
+
+# locked books and their plain forms, padded
+for name, lock, password in LOCKS:
+    for padding in 1, 2, 3:
+        both(f"{name}, {padding} of padding", lock, password, BOOK, lambda at: [at[8], at[14], at[10], at[14]], bytes(padding))
+    both(f"{name}, padding, a short body", lock, password, BOOK[:4] + [(BOUND_SHEET, bytes(3))] + BOOK[5:], lambda at: (28, at[4]), bytes(2))
+    both(f"{name}, padding, the last left open", lock, password, BOOK[:16], lambda at: (29, at[16] + 3), bytes(3))
+    both(f"{name}, a remainder that is no padding", lock, password, BOOK, lambda at: (6, at[17]), b"\0\0\1")
 
 
 # random streams

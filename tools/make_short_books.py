@@ -3,13 +3,15 @@
 
 Usage, at the root of the project: tools/make_short_books.py. Needs OpenSSL's libcrypto. The locked streams are made from plain ones by books.py, so an
 opened stream's bytes are those it was made from, and the counts that Open reports are those of sealing it (how many keys books.py derived, how many bytes
-it enciphered); each refusal is stated here beside its case, from document 01's list of questions; the verdict of Look is computed here, from document 01's
-words and document 02's (T-03), and so is whether a stream and that of the case before have the same lock. The forecast of a stream that is refused by 4 or 6
-to 26 is that refusal; else it is computed here from the layout of the stream, by document 02's words (T-04).
+it enciphered); padding is added behind both streams once they are made, and is counted by document 02's words (T-05); each refusal is stated here beside its
+case, from document 01's list of questions; the verdict of Look is computed here, from document 01's words and document 02's (T-03), and so is whether a
+stream and that of the case before have the same lock. The forecast of a stream that is refused by 4 or 6 to 26 is that refusal; else it is computed here from
+the layout of the stream, by document 02's words (T-04, T-05).
 
 In the data a case is five parts, each behind its length of four bytes, the lower first: its name, the password, the stream, and, as parts of no bytes
 whose length alone counts, the scratch and the output. The program lends bytes (offset mod 251) + 1, which are never zero.
 """
+import itertools
 import pathlib
 import struct
 
@@ -52,10 +54,10 @@ def look(stream):
 
 
 def counts(stream):
-    """Output bytes, records, enciphered body bytes and block keys of a stream that is in order."""
+    """Output bytes, records, enciphered body bytes and block keys of a stream that is in order. One to three bytes behind the last record are padding."""
     at = records = enciphered = 0
     kind = None
-    while at < len(stream):
+    while len(stream) - at >= 4:
         number, length = struct.unpack_from("<HH", stream, at)
         if number == FILEPASS and kind is None:
             kind = struct.unpack_from("<H", stream, at + 4)[0]
@@ -90,12 +92,15 @@ def case(name, stream, password, number, facts=(), plain=None, scratch=2070, mor
     lines.append(" ".join(words))
 
 
-def opened(name, lock, password, records, **rest):
-    """A book that opens, with its report."""
+def opened(name, lock, password, records, padding=0, **rest):
+    """A book that opens, with its report, and as many zeros behind both streams. A block that is of padding alone has a key too, under RC4."""
     derived, enciphered = lock.derived, lock.enciphered
     stream, plain = book(lock, password, records)
-    took = len(stream), lock.enciphered - enciphered, lock.derived - derived
-    case(name, stream, password, 0, (len(records), lock.number, lock.bits, lock.sealed, *took), plain, **rest)
+    length, keys = len(stream) + padding, lock.derived - derived
+    if keys:
+        keys += sum(at % 1024 == 0 for at in range(len(stream), length))
+    took = length, lock.enciphered - enciphered, keys
+    case(name, stream + bytes(padding), password, 0, (len(records), lock.number, lock.bits, lock.sealed, *took), plain + bytes(padding), **rest)
 
 
 SMALL = [(BOF, bytes(4)), (FILEPASS, b""), (0x0042, b"\xb0\x04"), (EOF, b"")]
@@ -361,7 +366,58 @@ for name, lock in ("XOR", XOR), ("1.1", Office97()), ("CryptoAPI", CryptoApi()):
 for bits in 48, *range(64, 128, 8):
     opened(f"CryptoAPI {bits}, three blocks", CryptoApi(bits), "Unruh 50°", SMALL[:-1] + [(0x00FD, some(2000, bits)), (EOF, b"")])
 
+# padding: every remainder of one to three bytes, of zeros and others, behind nothing, behind records, and where it is no remainder but part of a record
+LOCKS = ("XOR", XOR), ("1.1", Office97()), ("CryptoAPI", CryptoApi(name=b""))
+RIGHT = XOR.passwords(8)[0]
+REMAINDERS = [bytes(r) for length in (1, 2, 3) for r in itertools.product(*((0, other) for other in (0x2F, 0x01, 0x80)[:length]))]
+for rest in REMAINDERS:
+    padding, name = not any(rest), rest.hex()
+    refused(f"{name} behind nothing", rest, *((7, ()) if padding else (6, (0,))))
+    refused(f"{name} behind BOF", B + rest, *((8, ()) if padding else (6, (4,))))
+    refused(f"{name} in place of a body", B + struct.pack("<HH", 0x0042, len(rest) + 1) + rest, 6, (4,))
+    for lock_name, lock in LOCKS:
+        book_ = small(lock, RIGHT)
+        if padding:
+            opened(f"{lock_name}, {name} behind", lock, RIGHT, SMALL, padding=len(rest))
+            refused(f"{lock_name}, {name} behind, another password", book_ + rest, 27, password=RIGHT[:-1])
+        else:
+            refused(f"{lock_name}, {name} behind", book_ + rest, 6, (len(book_),), password=RIGHT)
+
+# four zeros are a record
+for zeros in range(4, 9):
+    refused(f"{zeros} zeros alone", bytes(zeros), 7)
+    refused(f"{zeros} zeros behind BOF", B + bytes(zeros), 8)
+    for name, lock in LOCKS:
+        opened(f"{name}, {zeros} zeros behind", lock, RIGHT, SMALL + [(0x0000, b"")] * (zeros // 4), padding=zeros % 4)
+
+# padding and other questions: as without it
+SIZE_39 = small(CryptoApi(40, stated=39, name=b""), "A")
+for padding in 1, 2, 3:
+    more = bytes(padding)
+    refused(f"{padding} of padding, FILEPASS first", record(FILEPASS) + more, 7)
+    refused(f"{padding} of padding, no FILEPASS", B + record(0x0042, bytes(2)) + record(EOF) + more, 8)
+    refused(f"{padding} of padding, another id before FILEPASS", B + record(0x0042) + XOR_BOOK[4:] + more, 9, (0x0042,))
+    refused(f"{padding} of padding, FILEPASS of three bytes", B + record(FILEPASS, b"\0\0\x15") + more, 10, (1, 4))
+    refused(f"{padding} of padding, a FILEPASS body cut short", B + record(FILEPASS, bytes(6))[:5] + more, 6, (4,))
+    refused(f"{padding} of padding, type 2", B + record(FILEPASS, b"\2\0") + more, 11, (2,))
+    refused(f"{padding} of padding, key size 39", SIZE_39 + more, 23, (39,))
+    refused(f"{padding} of padding, no UTF-8", XOR_BOOK + more, 2, password=b"\xff")
+    refused(f"{padding} of padding, a scratch of 2063", XOR_BOOK + more, 3, scratch=2063)
+    opened(f"{padding} of padding, an output as long as the stream", LOCKS[1][1], RIGHT, SMALL, padding=padding, more=0)
+    refused(f"{padding} of padding, an output one byte short", XOR_BOOK + more, 5, more=-1)
+    refused(f"{padding} of padding, an output as long as the records", XOR_BOOK + more, 5, more=-padding)
+    opened(f"{padding} of padding behind BOF and FILEPASS", LOCKS[1][1], RIGHT, SMALL[:2], padding=padding)
+
+# padding about a block's end
+for total, padding, (name, lock) in itertools.product(range(1023, 1027), (1, 2, 3), LOCKS):
+    rest = total - padding - len(book(lock, RIGHT, SMALL + [(0x00FD, b"")])[0])
+    records = SMALL + [(0x00FD, some(rest, total))]
+    opened(f"{name}, {total} with {padding} of padding", lock, RIGHT, records, padding=padding)
+    refused(f"{name}, {total} with {padding} of padding, another password", book(lock, RIGHT, records)[0] + bytes(padding), 27, password=RIGHT[:-1])
+
+data = b"".join(cases)
+assert len(data) <= 393216, "more than the program's buffer holds"
 pathlib.Path("crates/short_books/data").mkdir(parents=True, exist_ok=True)
-pathlib.Path("crates/short_books/data/cases").write_bytes(b"".join(cases))
+pathlib.Path("crates/short_books/data/cases").write_bytes(data)
 pathlib.Path("crates/short_books/stdout").write_text("\n".join(lines) + f"\n{len(lines)} cases\n", encoding="utf-8")
-print(len(cases), "cases,", sum(map(len, cases)), "bytes")
+print(len(cases), "cases,", len(data), "bytes")
