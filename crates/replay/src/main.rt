@@ -1,7 +1,8 @@
 // Runs a sample of the Rust source's own answers through the C exports: Look's verdict, Open's answer and every byte of
 // the plain stream, with the scratch and the rest of the output as they must be left; and the forecast of each stream. Prints
-// how many cases had each outcome, in how many Look's key size is judged by MS-OFFCRYPTO 2.3.5.1 and not by the Rust, how many
-// forecasts are no refusal, and how many cases differ. oracle/README.md says how the sample is made.
+// how many cases had each outcome, in how many Look's key size is judged by MS-OFFCRYPTO 2.3.5.1 and not by the Rust, in how
+// many the stream is padded and so judged by request T-05, how many forecasts are no refusal, and how many cases differ.
+// oracle/README.md says how the sample is made.
 use libc::STDOUT_FILENO;
 use samples::lent_byte;
 use samples::number;
@@ -15,11 +16,12 @@ fn data_buffer() -> [u8; 262144]
     [0; 262144]
 }
 
-// What came of a case: its outcome, whether Look's key size is judged by the standard and not by the Rust, and whether all is
-// as it must be.
+// What came of a case: its outcome, whether Look's key size is judged by the standard and not by the Rust, whether the stream
+// is padded, and whether all is as it must be.
 struct Ran {
     answer: u32,
     by_standard: bool,
+    padded: bool,
     same: bool,
 }
 
@@ -95,19 +97,31 @@ fn output_same(output: &[u8], answer: u32, plain: &[u8]) -> bool {
     }
 }
 
+// Whether a stream ends in as many zeros as are said to be padding: three at most.
+fn ends_padded(stream: &[u8], padding: usize) -> bool {
+    if 3 < padding {
+        return false;
+    }
+    if stream.len() < padding {
+        return false;
+    }
+    zeros(part(stream, stream.len() - padding, padding), padding)
+}
+
 // Forecasts what opening a stream will take.
 fn foretell(stream: &[u8], want: &[u8]) -> Foretold {
     let mut facts = [0u64; 8];
     let answer = sheet::sheet_forecast(stream, &mut facts);
     Foretold {
         told: answer == 0,
-        same: (answer == first_of(part(want, 42, 1)) as u32)
-            & facts_same(&facts, part(want, 43, 32)),
+        same: (answer == first_of(part(want, 43, 1)) as u32)
+            & facts_same(&facts, part(want, 44, 32)),
     }
 }
 
 // Runs a case with what is lent. What is wanted: the verdict's number, five facts, the key size in place of the last of them
-// or 0, the forecast's number, four facts, the answer's number, seven facts, and the plain stream where there is one.
+// or 0, how many bytes are padding, the forecast's number, four facts, the answer's number, seven facts, and the plain stream
+// where there is one.
 fn run_lent(
     password: &[u8],
     stream: &[u8],
@@ -119,14 +133,16 @@ fn run_lent(
     let mut told = [0u64; 8];
     let verdict = sheet::sheet_look(stream, &mut seen);
     let answer = sheet::sheet_open(stream, password, scratch, output, &mut told);
+    let padding = first_of(part(want, 42, 1)) as usize;
     let looked = look_same(verdict, &seen, want);
-    let opened = (answer as usize == number(want, 75)) & facts_same(&told, part(want, 79, 56));
+    let opened = (answer as usize == number(want, 76)) & facts_same(&told, part(want, 80, 56));
     let wiped = zeros(scratch, 2064) & as_lent(scratch, 2064);
-    let written = output_same(output, answer, part(want, 135, stream.len()));
+    let written = output_same(output, answer, part(want, 136, stream.len()));
     Ran {
         answer,
         by_standard: instead(want) != 0,
-        same: looked & opened & wiped & written,
+        padded: padding != 0,
+        same: looked & opened & wiped & written & ends_padded(stream, padding),
     }
 }
 
@@ -140,11 +156,12 @@ fn run(password: &[u8], stream: &[u8], want: &[u8]) -> Ran {
 }
 
 // How many cases had each outcome, 0 for a stream that opens and else the refusal's number; behind them, how many differ, in
-// how many Look's key size is judged by the standard, and in how many the forecast is no refusal.
-const KINDS: usize = 31;
+// how many Look's key size is judged by the standard, in how many the forecast is no refusal, and in how many the stream is
+// padded.
+const KINDS: usize = 32;
 
 fn counted(counts: &mut [u64; KINDS], k: usize) {
-    if k < 31 {
+    if k < 32 {
         counts[k] = std::num::wrapping_add_u64(counts[k], 1);
     }
 }
@@ -160,6 +177,9 @@ fn count_case(counts: &mut [u64; KINDS], ran: Ran, foretold: Foretold) {
     }
     if foretold.told {
         counted(counts, 30);
+    }
+    if ran.padded {
+        counted(counts, 31);
     }
 }
 
@@ -204,6 +224,8 @@ fn main() {
     }
     io::write_all(STDOUT_FILENO, b"key size 0 as 40\t");
     io::print_decimal(STDOUT_FILENO, counts[29]);
+    io::write_all(STDOUT_FILENO, b"\npadded\t");
+    io::print_decimal(STDOUT_FILENO, counts[31]);
     io::write_all(STDOUT_FILENO, b"\nforecasts that tell\t");
     io::print_decimal(STDOUT_FILENO, counts[30]);
     io::write_all(STDOUT_FILENO, b"\n");

@@ -35,6 +35,9 @@ pub struct Compare {
     numbers: BTreeMap<u32, u64>,
     /// By lock, key bits and whether the summary is sealed.
     opened: BTreeMap<[u64; 3], u64>,
+    /// How many streams are padded, which the Rust refuses and T-05 decides; and how many of them opened, by lock.
+    padded: u64,
+    padded_opened: [u64; 3],
     sealed_from_plain: u64,
     differences: u64,
     first: Vec<String>,
@@ -56,7 +59,9 @@ impl Compare {
     pub fn case(&mut self, case: Case) {
         let mut faults = Vec::new();
         let (look, answer) = self.faults(&case, &mut faults);
+        let padded = u64::from(paper::padding(&case.stream) > 0);
         self.cases += 1;
+        self.padded += padded;
         if let Ok((number, _)) = look {
             self.looks[number as usize] += 1;
         }
@@ -65,6 +70,7 @@ impl Compare {
             if answer.number == 0 {
                 let [_, lock, key_bits, sealed, ..] = answer.facts;
                 *self.opened.entry([lock, key_bits, sealed]).or_default() += 1;
+                self.padded_opened[lock as usize] += padded;
                 self.sealed_from_plain += u64::from(case.plain.is_some());
             }
         }
@@ -80,7 +86,7 @@ impl Compare {
         self.before = look.ok().map(|look| (case.stream, look));
     }
 
-    /// The oracle's answers, with the standard's key size where that decides, and in what the port's differ.
+    /// The oracle's answers, with the standard's key size and T-05's words where those decide, and in what the port's differ.
     fn faults(&mut self, case: &Case, faults: &mut Vec<String>) -> (Result<Look, String>, Result<Answer, String>) {
         let stream = &case.stream[..];
         let password = std::str::from_utf8(&case.password).unwrap_or("");
@@ -98,21 +104,18 @@ impl Compare {
             }
         }
 
+        // the oracle is asked also where what is lent is refused: the forecast is lent nothing
+        let judged = oracle::judged(&container, stream, password);
+        match &judged {
+            Err(text) => faults.push(format!("open: the oracle gives {text}")),
+            Ok(answer) => self.compare_forecasts(stream, answer, faults),
+        }
         let answer = match paper::lent(stream.len(), &case.password, case.scratch_len, case.output_len) {
             Some(number) => Ok(Answer::refusal(number, [0, 0])),
-            None => oracle::open(&container, stream, password),
+            None => judged,
         };
-        match &answer {
-            Err(text) => faults.push(format!("open: the oracle gives {text}, which has no number")),
-            Ok(answer) => self.compare_opens(case, answer, faults),
-        }
-        // where what is lent is refused, the oracle is asked still: the forecast is lent nothing
-        let alone = match &answer {
-            Ok(answer) if (1..=5).contains(&answer.number) => oracle::open(&container, stream, password),
-            _ => answer.clone(),
-        };
-        if let Ok(alone) = alone {
-            self.compare_forecasts(stream, &alone, faults);
+        if let Ok(answer) = &answer {
+            self.compare_opens(case, answer, faults);
         }
         (look, answer)
     }
@@ -235,6 +238,8 @@ impl Compare {
             println!("{lock} {key_bits}{}\t{count}", if *sealed == 1 { " sealed" } else { "" });
         }
         println!("of them compared with what was sealed\t{}", self.sealed_from_plain);
+        let [xor, old, api] = self.padded_opened;
+        println!("padded, judged by T-05\t{}, of them opened {}: XOR {xor}, 1.1 {old}, CryptoAPI {api}", self.padded, xor + old + api);
         let never = self.never();
         println!("outcomes that never occurred\t{}", if never.is_empty() { "none".to_string() } else { never.join(", ") });
         println!("differences\t{}", self.differences);
@@ -255,7 +260,8 @@ impl Compare {
         self.differences == 0 && never.is_empty()
     }
 
-    /// Of what can occur in a run: questions 1 to 3 and 5 to 27, every lock with each of its key sizes, a key size of 0 in Look, and forecasts of both kinds.
+    /// Of what can occur in a run: questions 1 to 3 and 5 to 27, every lock with each of its key sizes, a key size of 0 in Look, forecasts of both
+    /// kinds, and padded books that open under each lock.
     fn never(&self) -> Vec<String> {
         let numbers = (0..=27).filter(|number| *number != 4 && !self.numbers.contains_key(number)).map(|number| number.to_string());
         let mut reports = vec![[0, 0, 0], [1, 40, 0]];
@@ -265,7 +271,8 @@ impl Compare {
         let reports = reports.iter().filter(|report| !self.opened.contains_key(*report)).map(|report| format!("opened {report:?}"));
         let by_standard = (self.by_standard == 0).then(|| "look at a key size of 0".to_string());
         let forecasts = self.forecasts.contains(&0).then(|| "a forecast that tells, or one that refuses".to_string());
-        numbers.chain(reports).chain(by_standard).chain(forecasts).collect()
+        let padded = self.padded_opened.contains(&0).then(|| "a padded book opened under each lock".to_string());
+        numbers.chain(reports).chain(by_standard).chain(forecasts).chain(padded).collect()
     }
 }
 

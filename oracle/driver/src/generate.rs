@@ -1,4 +1,4 @@
-//! What a case is, and the random cases: books, sound and damaged, and short noise.
+//! What a case is, and the random cases: books, sound, padded and damaged, and short noise.
 
 use crate::lock::{filepass, put_record, CryptoApi, Keys, Lock};
 use crate::paper::{self, records, BOF, BOUND_SHEET, FILEPASS, LOOK_CAP, SEVEN};
@@ -59,7 +59,11 @@ pub fn random(seed: u64, index: u64) -> Case {
     } else if part == "wrong password" {
         asked = wrong_password(&password, random);
     }
-    if part != "sound" || matches!(lock, Lock::Xor) && !xor_takes(&password) {
+    let remainder = random_remainder(random);
+    stream.extend(&remainder);
+    plain.extend(&remainder);
+    let unreadable = remainder.iter().any(|byte| *byte != 0);
+    if part != "sound" || unreadable || matches!(lock, Lock::Xor) && !xor_takes(&password) {
         plain.clear();
     }
     let mut case = Case::new(part, index, stream, &asked);
@@ -70,6 +74,19 @@ pub fn random(seed: u64, index: u64) -> Case {
         lend_badly(&mut case, random);
     }
     case
+}
+
+/// What stands behind the last record: most often nothing, else one to three bytes, which are padding most often.
+fn random_remainder(random: &mut Random) -> Vec<u8> {
+    if !random.one_in(10) {
+        return Vec::new();
+    }
+    let mut remainder = vec![0; random.between(1, 3)];
+    if random.one_in(4) {
+        let at = random.below(remainder.len());
+        remainder[at] = random.next() as u8;
+    }
+    remainder
 }
 
 /// Characters that the XOR lock takes: 1 to 15, up to U+00FF.

@@ -41,33 +41,45 @@ fn seconds<T>(call: impl FnOnce() -> T) -> (f64, T) {
     (start.elapsed().as_secs_f64(), value)
 }
 
-/// One book of the greatest length under each lock, compared byte for byte; and question 4 one byte further. The times are of one call each, as
-/// `best` takes them.
+/// Books of the greatest length under each lock, without padding and with three bytes of it, compared byte for byte; and question 4 one byte
+/// further. The times are of one call each, as `best` takes them, the Rust's without the padding.
 pub fn large() -> bool {
     let mut sound = true;
     for (name, lock) in locks() {
-        let mut stream = book(&lock, STREAM_MAX_LEN, 0x003C, 8224);
-        let mut container = Container::open(&oracle::container(&stream, PASSWORD)).unwrap();
-        let (rust, result) = seconds(|| container.decrypt(PASSWORD));
-        let answer = oracle::answer(result, container, &stream).expect("an error maps to nothing");
-        let mut scratch = vec![0x5A; SCRATCH_LEN];
-        let mut output = vec![0x5A; STREAM_MAX_LEN];
-        let (port, (number, facts)) = seconds(|| port::open(&stream, PASSWORD.as_bytes(), &mut scratch, &mut output));
-        let same = answer.number == 0 && number == 0 && facts[..7] == answer.facts && facts[7] == 0 && output == answer.plain;
-        let foretold = port::forecast(&stream) == paper::forecast(&stream, 0, [0; 2]);
-        let wiped = scratch.iter().all(|byte| *byte == 0);
-        sound &= same && foretold && wiped;
-        println!(
-            "{name}\t{} bytes\t{} records\t{}\tport {port:.2} s\tRust {rust:.2} s",
-            stream.len(),
-            answer.facts[0],
-            if same && foretold && wiped { "same" } else { "DIFFERENT" }
-        );
-        drop(answer);
-        stream.push(0);
-        let (number, facts) = port::open(&stream, PASSWORD.as_bytes(), &mut scratch, &mut output);
-        sound &= (number, facts) == (4, [0; 8]) && port::forecast(&stream) == (4, [0; 8]);
-        println!("{name}\t{} bytes\tport {number}", stream.len());
+        for padding in [0, 3] {
+            let records = STREAM_MAX_LEN - padding;
+            let mut stream = book(&lock, records, 0x003C, 8224);
+            stream.resize(STREAM_MAX_LEN, 0);
+            let mut own_as_expected = true;
+            if padding > 0 {
+                let own = oracle::open(&oracle::container(&stream, PASSWORD), &stream, PASSWORD).expect("an error maps to nothing");
+                own_as_expected = oracle::unreadable_at(&own, records).is_ok();
+            }
+            let mut container = Container::open(&oracle::container(&stream[..records], PASSWORD)).unwrap();
+            let (rust, result) = seconds(|| container.decrypt(PASSWORD));
+            let answer = oracle::answer(result, container, &stream[..records]).expect("an error maps to nothing");
+            let answer = oracle::padded(answer, &stream).expect("it has a lock");
+            let mut scratch = vec![0x5A; SCRATCH_LEN];
+            let mut output = vec![0x5A; STREAM_MAX_LEN];
+            let (port, (number, facts)) = seconds(|| port::open(&stream, PASSWORD.as_bytes(), &mut scratch, &mut output));
+            let same = answer.number == 0 && number == 0 && facts[..7] == answer.facts && facts[7] == 0 && output == answer.plain;
+            let foretold = port::forecast(&stream) == paper::forecast(&stream, 0, [0; 2]);
+            let wiped = scratch.iter().all(|byte| *byte == 0);
+            let all = own_as_expected && same && foretold && wiped;
+            sound &= all;
+            println!(
+                "{name}\t{} bytes{}\t{} records\t{}\tport {port:.2} s\tRust {rust:.2} s",
+                stream.len(),
+                if padding > 0 { format!(", {padding} of them padding") } else { String::new() },
+                answer.facts[0],
+                if all { "same" } else { "DIFFERENT" }
+            );
+            drop(answer);
+            stream.push(0);
+            let (number, facts) = port::open(&stream, PASSWORD.as_bytes(), &mut scratch, &mut output);
+            sound &= (number, facts) == (4, [0; 8]) && port::forecast(&stream) == (4, [0; 8]);
+            println!("{name}\t{} bytes\tport {number}", stream.len());
+        }
     }
     sound
 }

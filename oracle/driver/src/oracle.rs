@@ -56,10 +56,43 @@ pub fn open(container: &[u8], stream: &[u8], password: &str) -> Result<Answer, S
     answer(result, container, stream)
 }
 
+/// What the port's Open must come to. Of a stream without padding that is the Rust's answer. Of a padded one it is the Rust's answer to the stream
+/// without its padding, changed by document 02's words (T-05), and the Rust's own must be 6 at the padding's offset: it asks that before all else.
+pub fn judged(container: &[u8], stream: &[u8], password: &str) -> Result<Answer, String> {
+    let own = open(container, stream, password)?;
+    let padding = paper::padding(stream);
+    if padding == 0 {
+        return Ok(own);
+    }
+    let records = &stream[..stream.len() - padding];
+    unreadable_at(&own, records.len())?;
+    padded(open(&self::container(records, password), records, password)?, stream)
+}
+
+/// Whether the Rust's own answer to a padded stream is 6 at this offset.
+pub fn unreadable_at(own: &Answer, offset: usize) -> Result<(), String> {
+    if *own == Answer::refusal(6, [offset as u64, 0]) {
+        Ok(())
+    } else {
+        Err(format!("{} {:?} for a stream that is padded at {offset}", own.number, own.facts))
+    }
+}
+
+/// The answer to a stream with padding, from the one without: a refusal is the same, with the same details; a report has the output bytes and block
+/// keys of the whole stream, and the plain stream ends in the padding.
+pub fn padded(mut answer: Answer, stream: &[u8]) -> Result<Answer, String> {
+    if answer.number == 0 {
+        let [bytes, _, _, keys] = paper::counts(stream).ok_or("opened, but no lock is stated")?;
+        (answer.facts[4], answer.facts[6]) = (bytes, keys);
+        answer.plain.extend(&stream[stream.len() - paper::padding(stream)..]);
+    }
+    Ok(answer)
+}
+
 /// What decrypting the container of a stream came to.
 pub fn answer(result: Result<(), Error>, mut container: Container, stream: &[u8]) -> Result<Answer, String> {
     if let Err(error) = result {
-        let (number, details) = number_of(&error, stream).ok_or_else(|| format!("{error:?}"))?;
+        let (number, details) = number_of(&error, stream).ok_or_else(|| format!("{error:?}, which has no number"))?;
         return Ok(Answer::refusal(number, details));
     }
     let plain = container.read(WORKBOOK).map_err(|error| format!("{error:?}"))?;

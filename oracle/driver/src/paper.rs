@@ -1,5 +1,6 @@
 //! What document 01's words say of a stream where the Rust gives no value: the number of records, the lock and its key bits,
-//! the flags of questions 18 to 20, and questions 1 to 5. And what document 02's words say where the Rust says otherwise, or nothing: what opening takes.
+//! the flags of questions 18 to 20, and questions 1 to 5. And what document 02's words say where the Rust says otherwise, or nothing: the key size
+//! for 0, what opening takes, and the padding.
 
 use crate::port::{PASSWORD_MAX_LEN, SCRATCH_LEN, STREAM_MAX_LEN};
 
@@ -41,7 +42,7 @@ impl Record {
     }
 }
 
-/// The records of a stream, up to the first that can't be read.
+/// The records of a stream, up to its padding, or to the first that can't be read.
 pub fn records(stream: &[u8]) -> impl Iterator<Item = Record> + '_ {
     let mut at = 0;
     std::iter::from_fn(move || {
@@ -53,6 +54,17 @@ pub fn records(stream: &[u8]) -> impl Iterator<Item = Record> + '_ {
         at = record.end;
         Some(record)
     })
+}
+
+/// How many bytes of padding a stream has: one to three behind the last record, all zero, or 0 where there is none (document 02, T-05).
+pub fn padding(stream: &[u8]) -> usize {
+    let end = records(stream).last().map_or(0, |record| record.end);
+    let rest = &stream[end..];
+    if rest.len() < 4 && rest.iter().all(|byte| *byte == 0) {
+        rest.len()
+    } else {
+        0
+    }
 }
 
 /// The body of the first FILEPASS.
@@ -105,7 +117,8 @@ pub fn report(stream: &[u8]) -> Option<[u64; 3]> {
 /// The bytes of a block that has a key of its own.
 const BLOCK: usize = 1024;
 
-/// What opening a stream takes that no question refuses: output bytes, records, enciphered body bytes and block keys (document 02, T-04).
+/// What opening a stream takes that no question refuses: output bytes, records, enciphered body bytes and block keys (document 02, T-04). Padding
+/// counts in the output bytes and the block keys, and in no other (T-05).
 pub fn counts(stream: &[u8]) -> Option<[u64; 4]> {
     let (mut count, mut enciphered) = (0, 0);
     for record in records(stream) {

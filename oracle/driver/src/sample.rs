@@ -15,6 +15,8 @@ const SHORT_PASSWORD: usize = 70;
 const BLOCK: usize = 1024;
 const LONGEST_STREAM: usize = 2200;
 const LONG_ONE_IN: usize = 20;
+/// One of every so many that are opened under a lock, and of every so many whose password is wrong, is padded at least. Among the others some are too.
+const PADDED_ONE_IN: usize = 8;
 /// How many outcomes there are: questions 6 to 27, and each lock opened.
 const OUTCOMES: usize = 25;
 /// More random cases than any list needs.
@@ -34,7 +36,7 @@ fn add(case: Case, quota: usize, seen: &mut BTreeSet<(Vec<u8>, Vec<u8>)>, filled
     let password = std::str::from_utf8(&case.password).unwrap();
     let container = oracle::container(&case.stream, password);
     let (look, look_facts) = oracle::look(&container).expect("Look maps to nothing");
-    let answer = oracle::open(&container, &case.stream, password).expect("an error maps to nothing");
+    let answer = oracle::judged(&container, &case.stream, password).expect("an error maps to nothing");
     // by number and, where opened, by lock
     let outcome = (answer.number, if answer.number == 0 { answer.facts[1] } else { 0 });
     let count = filled.entry(outcome).or_default();
@@ -44,6 +46,8 @@ fn add(case: Case, quota: usize, seen: &mut BTreeSet<(Vec<u8>, Vec<u8>)>, filled
         ((0, 1..), 1) => short_stream && !short_password,
         _ => short_stream && short_password,
     };
+    let padding = paper::padding(&case.stream);
+    let wanted = wanted && (padding > 0 || !matches!((outcome.0, *count % PADDED_ONE_IN), (0 | 27, 0)));
     if *count == quota || !wanted || !seen.insert((case.stream.clone(), case.password.clone())) {
         return;
     }
@@ -51,6 +55,7 @@ fn add(case: Case, quota: usize, seen: &mut BTreeSet<(Vec<u8>, Vec<u8>)>, filled
     let mut expected = vec![look as u8];
     expected.extend(look_facts.iter().flat_map(|fact| fact.to_le_bytes()));
     expected.push(paper::instead(&case.stream, (look, look_facts)).unwrap_or(0) as u8);
+    expected.push(padding as u8);
     let (forecast, foretold) = paper::forecast(&case.stream, answer.number, [answer.facts[0], answer.facts[1]]);
     expected.push(forecast as u8);
     expected.extend(foretold[..4].iter().flat_map(|fact| fact.to_le_bytes()));

@@ -1,4 +1,5 @@
-//! The fixed cases, which every run starts with: every short stream over a small alphabet, sweeps over small books, and books around Look's cap.
+//! The fixed cases, which every run starts with: every short stream over a small alphabet, sweeps over small books, books around Look's cap, and
+//! padded books.
 
 use crate::generate::{Case, ALPHABET};
 use crate::lock::{filepass, put_record, CryptoApi, Lock};
@@ -13,6 +14,10 @@ pub fn all(give: &mut dyn FnMut(Case)) {
     several_faults(give);
     lendings(give);
     around_cap(give);
+    padded(give);
+    padded_blocks(give);
+    padded_lendings(give);
+    padded_cap(give);
 }
 
 /// Every tail of up to 4 bytes of the alphabet, behind nothing, behind a BOF and perhaps one more record, and behind a BOF and the
@@ -44,16 +49,21 @@ fn exhaustive(give: &mut dyn FnMut(Case)) {
     }
 }
 
-/// Books of a few records: two under XOR, one under 1.1, and CryptoAPI with every key size that may be stated, summary clear and sealed.
-fn small_books(random: &mut Random) -> Vec<(Vec<u8>, &'static str)> {
+/// Two locks under XOR, one under 1.1, and CryptoAPI with every key size that may be stated, summary clear and sealed; each with a password.
+fn small_locks() -> Vec<(Lock, &'static str)> {
     let mut locks = vec![(Lock::Xor, "A"), (Lock::Xor, "\u{E9}t\u{E9}"), (Lock::Office97, "lift angle")];
     for key_size in [128, 40, 0, 56, 48, 64, 72, 80, 88, 96, 104, 112, 120] {
         for flags in [0x0C, 0x04] {
             locks.push((Lock::CryptoApi(CryptoApi::plain(key_size, flags)), "lift angle"));
         }
     }
+    locks
+}
+
+/// A book of a few records under each of the small locks.
+fn small_books(random: &mut Random) -> Vec<(Vec<u8>, &'static str)> {
     let mut books = Vec::new();
-    for (lock, password) in locks {
+    for (lock, password) in small_locks() {
         let (body, keys) = filepass(&lock, password, random);
         let mut stream = Vec::new();
         put_record(&mut stream, BOF, &[]);
@@ -134,9 +144,9 @@ fn fields(give: &mut dyn FnMut(Case)) {
     }
 }
 
-/// Under each family, every set of up to four of these faults at once, so that the order of the questions shows.
+/// Under each family, every set of up to four of these faults at once, so that the order of the questions shows. The last is no fault but padding.
 fn several_faults(give: &mut dyn FnMut(Case)) {
-    const FAULTS: u32 = 24;
+    const FAULTS: u32 = 25;
     const MOST: u32 = 4;
     let random = &mut Random::new(0, 3);
     let mut index = 0;
@@ -168,6 +178,9 @@ fn several_faults(give: &mut dyn FnMut(Case)) {
             put_record(&mut stream, 0x0042, &[7, 8]);
             if fault(19) {
                 stream.pop();
+            }
+            if fault(24) {
+                stream.resize(stream.len() + 1 + index as usize % 3, 0);
             }
             // the password, the scratch and the output: questions 27, 2, 3, 5; question 1 is swept with the lendings
             let mut case = Case::new("several faults", index, stream, if fault(20) { "B" } else { "A" });
@@ -255,4 +268,111 @@ fn clear_chain(len: usize, longest: usize, random: &mut Random) -> Vec<u8> {
         put_record(&mut chain, random.pick(&[BOF, 0x00E1, 0x0138, 0x0194, 0x0195, 0x0196]), &random.bytes(body));
     }
     chain
+}
+
+/// Not the password of any small book.
+const WRONG: &str = "amplitude";
+
+/// Remainders of one to three bytes, every pattern of 0 and a few other bytes: those of zeros are padding.
+fn remainders() -> Vec<Vec<u8>> {
+    const BYTES: [u8; 4] = [0x00, 0x01, 0x2F, 0xFF];
+    let mut remainders = Vec::new();
+    for len in 1..=3 {
+        for number in 0..BYTES.len().pow(len) {
+            remainders.push((0..len).map(|k| BYTES[number / BYTES.len().pow(k) % BYTES.len()]).collect());
+        }
+    }
+    remainders
+}
+
+/// Of each small book: every remainder, with the right password and a wrong one; and one to eight zeros behind it and behind every truncation.
+fn padded(give: &mut dyn FnMut(Case)) {
+    let mut index = 0;
+    let mut next = |part: &'static str, stream: Vec<u8>, password: &str| {
+        give(Case::new(part, index, stream, password));
+        index += 1;
+    };
+    for (stream, password) in small_books(&mut Random::new(0, 4)) {
+        for remainder in remainders() {
+            for asked in [password, WRONG] {
+                next("remainder", [&stream[..], &remainder].concat(), asked);
+            }
+        }
+        for len in 0..=stream.len() {
+            for zeros in 1..=8 {
+                next("zeros", [&stream[..len], &vec![0; zeros]].concat(), password);
+            }
+        }
+    }
+}
+
+/// Under each small lock, books whose whole length lies about the end of the first or the second block, with up to three bytes of padding or a
+/// remainder that is none, the right password and a wrong one.
+fn padded_blocks(give: &mut dyn FnMut(Case)) {
+    let random = &mut Random::new(0, 5);
+    let mut index = 0;
+    for (lock, password) in small_locks() {
+        for len in (1021..=1027).chain(2045..=2051) {
+            for remainder in [&[][..], &[0], &[0, 0], &[0, 0, 0], &[1], &[0, 1], &[1, 0, 0]] {
+                let (body, keys) = filepass(&lock, password, random);
+                let mut plain = Vec::new();
+                put_record(&mut plain, BOF, &[]);
+                put_record(&mut plain, FILEPASS, &body);
+                let zeroed = 4..plain.len();
+                let rest = random.bytes(len - remainder.len() - plain.len() - 4);
+                put_record(&mut plain, 0x0042, &rest);
+                let mut stream = plain.clone();
+                keys.seal(&mut stream);
+                for bytes in [&mut stream, &mut plain] {
+                    bytes.extend(remainder);
+                }
+                plain[zeroed.start..zeroed.start + 2].fill(0);
+                plain[zeroed.start + 4..zeroed.end].fill(0);
+                for asked in [password, WRONG] {
+                    let mut case = Case::new("padded block", index, stream.clone(), asked);
+                    case.plain = (asked == password && remainder.iter().all(|byte| *byte == 0)).then(|| plain.clone());
+                    give(case);
+                    index += 1;
+                }
+            }
+        }
+    }
+}
+
+/// Questions 1 to 3 and 5 of padded books: passwords of each kind, and every scratch and output around what is needed.
+fn padded_lendings(give: &mut dyn FnMut(Case)) {
+    let mut index = 0;
+    for (stream, right) in small_books(&mut Random::new(0, 6)) {
+        for padding in 1..=3 {
+            let padded = [&stream[..], &vec![0; padding]].concat();
+            for password in [right.into(), vec![b'x'; PASSWORD_MAX_LEN + 1], vec![0xC3], Vec::new()] {
+                for scratch_len in [0, SCRATCH_LEN - 1, SCRATCH_LEN] {
+                    for output_len in padded.len() - 5..padded.len() + 3 {
+                        let case = Case::new("padded, lent", index, padded.clone(), "");
+                        give(Case { password: password.clone(), scratch_len, output_len, ..case });
+                        index += 1;
+                    }
+                }
+            }
+        }
+    }
+}
+
+/// Padding around Look's cap, behind clear records, with a lock among them and without.
+fn padded_cap(give: &mut dyn FnMut(Case)) {
+    let mut random = Random::new(0, 7);
+    let mut index = 0;
+    for end in LOOK_CAP - 4..LOOK_CAP + 3 {
+        for padding in 1..=3 {
+            let chain = clear_chain(end, 65_535, &mut random);
+            let mut locked = chain[..4].to_vec();
+            put_record(&mut locked, FILEPASS, &filepass(&Lock::Office97, "lift angle", &mut random).0);
+            locked.extend(&clear_chain(end - locked.len(), 65_535, &mut random));
+            for mut stream in [chain, locked] {
+                stream.resize(end + padding, 0);
+                give(Case::new("padded around the cap", index, stream, "lift angle"));
+                index += 1;
+            }
+        }
+    }
 }

@@ -6,10 +6,10 @@ use Rattle.replay.proofs.main.Statement.{statement}
 use Rattle.replay.proofs.main.Tie as tie
 
 abbrev Inv-loop : tie.InvT-loop
-Inv-loop counts k₀ t7 t8 t9 t10 t11 t12 k = k ≤ 28
+Inv-loop counts k₀ t7 t8 t9 t10 t11 t12 t13 k = k ≤ 28
 
 abbrev μ-loop : tie.MeasureT-loop
-μ-loop counts k₀ t7 t8 t9 t10 t11 t12 k = 28 - k
+μ-loop counts k₀ t7 t8 t9 t10 t11 t12 t13 k = 28 - k
 
 pub main-spec : {M : Type 1} → statement M
 main-spec =
@@ -37,6 +37,10 @@ main-spec =
     (λ c. search needs)
     (λ c. search needs)
     (λ c. search needs)
+    (λ c. search needs)
+    (λ c κs. search needs)
+    (λ c. search needs)
+    (λ c κs. search needs)
     (λ c. search needs)
     (λ c κs. search needs)
     (λ c. search needs)
