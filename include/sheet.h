@@ -9,7 +9,9 @@
  *   - What is written (scratch, output, facts) overlaps nothing else that is passed to the same call.
  *   - No other thread writes to what is lent while a call runs. Calls on different memory may run at once.
  *
- * The stream is the Workbook stream of an .xls file, taken out of its compound file. */
+ * The stream is the Workbook stream of an .xls file, taken out of its compound file. One to three bytes behind its last
+ * record, all zero, are padding, as one spreadsheet program writes it: they are no record, and part of the stream's length.
+ * Four zero bytes are a record of id 0 without a body. */
 #ifndef SHEET_H
 #define SHEET_H
 
@@ -33,7 +35,8 @@ extern "C" {
  *   3  the scratch is shorter than 2,064 bytes
  *   4  the stream is longer than 1,073,741,824 bytes
  *   5  the output is shorter than the stream
- *   6  a record can't be read: its header or its body is cut off      (the offset of its header)
+ *   6  a record can't be read: its header or its body is cut off,     (the offset of its header)
+ *      and what is left is not padding
  *   7  the stream does not start with a BOF record
  *   8  there is no FILEPASS record: the workbook is not locked
  *   9  another record stands before FILEPASS than the format admits   (its id; 0x0086 is WriteProtect: the book was
@@ -59,11 +62,12 @@ extern "C" {
  *  28  a sheet's entry names no sheet: a BoundSheet8 record's body    (the offset of the BoundSheet8 record's header)
  *      is shorter than 4 bytes, or the start in it is no BOF record's header
  *  29  BOF and EOF records do not pair up                             (the offset of the header of an EOF record with no
- *      BOF open; or, if a BOF is left open at the end, the stream's length) */
+ *      BOF open; or, if a BOF is left open at the end, the stream's length, padding included) */
 
 /* Whether a workbook is locked, by its first 1,048,576 bytes at most.
  *
- * Answers 0 unknown (no workbook stream, or cut before it can be told), 1 no, 2 yes.
+ * Answers 0 unknown (no workbook stream, or cut before it can be told), 1 no, 2 yes. A stream of
+ * records that are never enciphered, without FILEPASS, can't be told either, with padding at its end or without.
  * All eight facts are written, whatever the answer. On yes: facts[0] is 1 if the lock is XOR; facts[1] is 1 if
  * the lock's version is there, then facts[2] is its major and facts[3] its minor number; facts[4] is the key size
  * in bits, 0 for none. All others are 0.
@@ -82,9 +86,10 @@ bool sheet_same_lock(const uint8_t *a, size_t a_len, const uint8_t *b, size_t b_
 
 /* The record whose header is at an offset of a stream: to list the records, start at 0 and go on at at + 4 + facts[1].
  *
- * Answers 0 at the end of the stream or past it; 1 for a record, and then facts[0] is its id, facts[1] the length of its
- * body, and facts[2] how many of the body's first bytes stand in the clear in a locked workbook; 2 if a header or a body is cut
- * off, and then facts[0] is the header's offset. All eight facts are written; the others are 0. */
+ * Answers 0 at the end of the stream or past it, and at any offset where only one to three zero bytes are left; 1 for a
+ * record, and then facts[0] is its id, facts[1] the length of its body, and facts[2] how many of the body's first bytes
+ * stand in the clear in a locked workbook; 2 if a header or a body is cut off, and then facts[0] is the header's offset. All
+ * eight facts are written; the others are 0. */
 uint32_t sheet_record(const uint8_t *stream, size_t stream_len, size_t at, uint64_t facts[8]);
 
 /* The directory of sheets: how many a workbook has, and where the one at a place starts.
@@ -121,15 +126,15 @@ uint32_t sheet_directory(const uint8_t *stream, size_t stream_len, size_t place,
  *
  * Answers 0 if only the password is left to be checked. Then
  *
- *   - facts[0] is the number of output bytes: the stream's length;
+ *   - facts[0] is the number of output bytes: the stream's length, padding included;
  *   - facts[1] is the number of records;
  *   - facts[2] is the number of enciphered body bytes: the lengths of all bodies less their clear parts, summed, both as
  *     sheet_record tells them;
  *   - facts[3] is the number of block keys that are derived: 0 under XOR; under RC4 one for the check of the password, and
- *     one for each started 1,024 bytes of the stream, so that the key of the first block counts twice.
+ *     one for each started 1,024 bytes of the stream, padding included, so that the key of the first block counts twice.
  *
- * These are proved to be the four that sheet_open reports of a stream that it opens, and facts[2] + 4 * facts[1] never to
- * pass stream_len.
+ * These are proved to be the four that sheet_open reports of a stream that it opens, and facts[2] + 4 * facts[1] and the
+ * padding never to pass stream_len.
  *
  * Any other answer is a refusal, 4 or 6 to 26, and facts[0] and facts[1] are its two details. The lowest number that applies
  * is given. All eight facts are written, whatever the answer; the others are 0.
@@ -151,7 +156,8 @@ uint32_t sheet_forecast(const uint8_t *stream, size_t stream_len, uint64_t facts
  * is as it was. facts[0] is the number of records; facts[1] the lock: 0 XOR, 1 Office 97 RC4 (version 1.1),
  * 2 RC4 CryptoAPI; facts[2] the key size in bits: 0 for XOR, 40 for 1.1; facts[3] is 1 if the document summary
  * is sealed too; facts[4] is the number of output bytes, facts[5] that of enciphered body bytes and facts[6] that of block
- * keys. facts[7] is 0. The records and the last three are what sheet_forecast tells of the stream.
+ * keys. facts[7] is 0. The records and the last three are what sheet_forecast tells of the stream. Padding comes out as it
+ * is, under every lock; it counts for output bytes and block keys, and is no record.
  *
  * Any other answer is a refusal, 1 to 27: the output is as it was, facts[0] and facts[1] are its two details, and the
  * other facts are 0. The lowest number that applies is given.
@@ -163,8 +169,8 @@ uint32_t sheet_forecast(const uint8_t *stream, size_t stream_len, uint64_t facts
  * stack frames and in registers, of which no proof can speak once the call has returned. A host that minds should
  *
  *   - call sheet_open from a function that is not inlined, and then, from the same caller, a second one that is not
- *     inlined and overwrites a local array of 16 KiB through a pointer to volatile. A call was measured to go 3,104
- *     bytes deep, and 5,704 where the dynamic linker binds memcpy or memset during it;
+ *     inlined and overwrites a local array of 16 KiB through a pointer to volatile. A call was measured to go 3,136
+ *     bytes deep, and under 5,800 where the dynamic linker binds memcpy or memset during it;
  *   - link with -z now, or clear the vector registers after the call (vzeroall, and zmm16 to zmm31 where there are
  *     any): memcpy leaves parts of the tables there, and a function bound at its first call, or a signal handled on
  *     the same stack, saves them to the stack;

@@ -21,7 +21,8 @@ pub struct Forecast {
 /// Tells what opening a stream will take, without a password.
 ///
 /// The four numbers are those of the [`Report`](crate::Report) that [`open`](crate::open()) gives
-/// with the right password.
+/// with the right password. Padding, one to three zero bytes behind the last record, counts for the
+/// output bytes and the block keys alone.
 ///
 /// ```
 /// # fn main() -> Result<(), Box<dyn std::error::Error>> {

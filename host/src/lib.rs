@@ -6,9 +6,12 @@
 //! `sheet` is made from this crate too.
 //!
 //! The stream is the Workbook stream of an `.xls` file, taken out of its compound file (`gsf cat
-//! book.xls Workbook > book.bin`). [`look`] tells whether it is locked, [`same_lock`] whether two
-//! are locked alike, [`records`] lists its records, [`directory`] tells where its sheets start,
-//! [`forecast`] tells what opening it will take, and [`open`] gives the plain stream:
+//! book.xls Workbook > book.bin`). One to three zero bytes behind its last record are padding: they
+//! are no record, and part of the stream's length.
+//!
+//! [`look`] tells whether a stream is locked, [`same_lock`] whether two are locked alike,
+//! [`records`] lists its records, [`directory`] tells where its sheets start, [`forecast`] tells
+//! what opening it will take, and [`open`] gives the plain stream:
 //!
 //! ```
 //! # fn main() -> Result<(), Box<dyn std::error::Error>> {

@@ -17,7 +17,7 @@ pub const PASSWORD_MAX_LEN: usize = 1024;
 /// The most bytes of a stream: 1 GiB.
 pub const STREAM_MAX_LEN: usize = 1 << 30;
 
-/// The stack that is overwritten after a call, in bytes. A call was measured to use 3,360.
+/// The stack that is overwritten after a call, in bytes. A call was measured to use 3,136.
 const SCRUBBED_LEN: usize = 16 * 1024;
 
 /// The lock of a workbook.
@@ -67,10 +67,10 @@ pub struct Report {
 /// Opens a locked workbook stream.
 ///
 /// The password is UTF-8. The output has room for the stream, and on success
-/// `output[..stream.len()]` is the plain stream, in which every record stands where it stood; the
-/// rest of the output is as it was. On a refusal the whole output is as it was. The scratch has
-/// [`SCRATCH_LEN`] bytes or more; those end zero, save on refusals 1 to 5, which leave it as it
-/// was.
+/// `output[..stream.len()]` is the plain stream, in which every record stands where it stood and
+/// padding, one to three zero bytes behind the last record, comes through; the rest of the output
+/// is as it was. On a refusal the whole output is as it was. The scratch has [`SCRATCH_LEN`] bytes
+/// or more; those end zero, save on refusals 1 to 5, which leave it as it was.
 ///
 /// No two of the four can overlap where one is written: the borrow rules admit nothing else beside
 /// a `&mut [u8]`.

@@ -31,7 +31,8 @@ impl Record {
     }
 }
 
-/// A header or a body that is cut off: the records of a stream end here.
+/// A header or a body that is cut off, where padding is not all that is left: the records of a
+/// stream end here.
 #[derive(Clone, Copy, Debug, PartialEq, Eq)]
 pub struct Fault {
     /// The offset of the header.
@@ -50,7 +51,8 @@ impl fmt::Display for Fault {
 
 impl Error for Fault {}
 
-/// The records of a stream in order, ended by the first [`Fault`]. Made by [`records`].
+/// The records of a stream in order, ended by the first [`Fault`] if there is one. Nothing comes for
+/// padding, one to three zero bytes behind the last record. Made by [`records`].
 #[derive(Clone, Debug)]
 pub struct Records<'a> {
     stream: &'a [u8],
@@ -68,6 +70,9 @@ pub struct Records<'a> {
 ///     .find(|record| record.id == 0x002F)
 ///     .expect("a FILEPASS record");
 /// assert_eq!((locked.at, locked.len), (20, 122));
+///
+/// // An EOF record of no bytes, and padding.
+/// assert_eq!(sheet::records(&[0x0A, 0, 0, 0, 0, 0, 0]).count(), 1);
 /// # Ok(())
 /// # }
 /// ```

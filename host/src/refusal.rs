@@ -108,8 +108,7 @@ impl Refusal {
             5 => "the program that calls must lend an output at least as long as the stream",
             6 => {
                 "the stream is cut short or is not a workbook stream: take it out of the .xls file \
-                 anew, or get another copy; if nothing but zeros follows there, the book was \
-                 padded at its end: take those zeros off"
+                 anew, or get another copy; zeros at its end are not the cause"
             }
             7 => {
                 "this is not a workbook stream: take the stream named Workbook out of the .xls \

@@ -1,75 +1,14 @@
 //! Every function through the wrapper, on buffers of every length around each limit, with guard
-//! bytes around each buffer. The directory and the forecast have their own tests, in directory.rs and
-//! forecast.rs.
+//! bytes around each buffer. The directory, the forecast and padding have their own tests, in
+//! directory.rs, forecast.rs and padding.rs.
 
 mod common;
 
 use common::book::{clear_len, Book, Kind, BOF, FILEPASS, KINDS};
-use common::guarded::{Guarded, FILL};
-use sheet::{Facts, Fault, Record, Refusal, Report, Verdict};
+use common::guarded::Guarded;
+use common::lent::Lent;
+use sheet::{Fault, Record, Refusal, Report, Verdict};
 use sheet::{PASSWORD_MAX_LEN, SCRATCH_LEN, STREAM_MAX_LEN};
-
-/// The buffers of a call to `open`.
-struct Lent {
-    stream: Guarded,
-    password: Guarded,
-    scratch: Guarded,
-    output: Guarded,
-}
-
-impl Lent {
-    fn new(stream: &[u8], password: &[u8], scratch: usize, output: usize) -> Lent {
-        Lent {
-            stream: Guarded::with(stream),
-            password: Guarded::with(password),
-            scratch: Guarded::filled(scratch),
-            output: Guarded::filled(output),
-        }
-    }
-
-    /// Buffers that suffice.
-    fn enough(stream: &[u8], password: &[u8]) -> Lent {
-        Lent::new(stream, password, SCRATCH_LEN, stream.len())
-    }
-
-    /// Opens, and sees that nothing is written beside the buffers, nor to what is read, nor to the
-    /// output if refused, and that the scratch is as promised.
-    fn open(&mut self) -> Result<Report, Refusal> {
-        let answer = sheet::open(
-            self.stream.get(),
-            self.password.get(),
-            self.scratch.get_mut(),
-            self.output.get_mut(),
-        );
-        self.stream.check_untouched();
-        self.password.check_untouched();
-        self.scratch.check_guards();
-        self.output.check_guards();
-        match answer {
-            Ok(_) => {
-                let behind = &self.output.get()[self.stream.get().len()..];
-                assert!(behind.iter().all(|byte| *byte == FILL));
-            }
-            Err(_) => self.output.check_untouched(),
-        }
-        match answer {
-            Err(refusal) if refusal.number() <= 5 => self.scratch.check_untouched(),
-            _ => {
-                let (used, behind) = self.scratch.get().split_at(SCRATCH_LEN);
-                assert!(used.iter().all(|byte| *byte == 0));
-                assert!(behind.iter().all(|byte| *byte == FILL));
-            }
-        }
-        answer
-    }
-
-    /// Opens, and sees that the plain stream comes out.
-    fn open_to(&mut self, plain: &[u8]) -> Report {
-        let report = self.open().unwrap();
-        assert!(&self.output.get()[..plain.len()] == plain);
-        report
-    }
-}
 
 fn refused(number: u32, details: [u64; 2]) -> Result<Report, Refusal> {
     Err(Refusal::new(number, details))
@@ -305,22 +244,9 @@ fn a_look_at_a_book_cut_at_every_length() {
             let stream = Guarded::with(&book.locked[..len]);
             let verdict = sheet::look(stream.get());
             stream.check_untouched();
-            let body = len.saturating_sub(header + 4);
-            let expected = if len < header + 4 {
-                Verdict::Unknown
-            } else {
-                Verdict::Yes(Facts {
-                    xor: kind == Kind::Xor && body >= 2,
-                    version: match kind {
-                        Kind::Office97 if body >= 6 => Some((1, 1)),
-                        Kind::CryptoApi(..) if body >= 6 => Some((4, 2)),
-                        _ => None,
-                    },
-                    key_size: match kind {
-                        Kind::CryptoApi(bits, _) if body >= 34 => Some(bits),
-                        _ => None,
-                    },
-                })
+            let expected = match len.checked_sub(header + 4) {
+                None => Verdict::Unknown,
+                Some(body) => Verdict::Yes(kind.facts(body)),
             };
             assert_eq!(verdict, expected, "{kind:?} {len}");
         }

@@ -8,8 +8,9 @@ use std::os::unix::fs::{symlink, PermissionsExt};
 use std::process::Stdio;
 
 use common::bench::{Bench, Ran, FORECAST, PASSWORD, REPORT};
-use common::book::{Book, Kind, BOF, FILEPASS, KINDS};
+use common::book::{clear_len, Book, Kind, BOF, FILEPASS, KINDS};
 use common::process::{run, Process};
+use common::walk::walk;
 
 #[test]
 fn look_tells_the_lock() {
@@ -303,6 +304,22 @@ fn look_tells_the_key_size_that_open_reports() {
     assert!(bench.read("plain") == book.plain);
 }
 
+/// What is told when a book is opened.
+fn report_of(book: &Book) -> String {
+    let report = book.report_in(book.locked.len());
+    let sealed = if report.summary_sealed { "yes" } else { "no" };
+    format!(
+        "records\t{}\nlock\t{}\nkey size\t{}\nsummary sealed\t{sealed}\noutput bytes\t{}\n\
+         enciphered body bytes\t{}\nblock keys\t{}\n",
+        report.records,
+        report.lock,
+        report.key_bits,
+        report.output_bytes,
+        report.enciphered_body_bytes,
+        report.block_keys
+    )
+}
+
 #[test]
 fn open_reports_every_lock() {
     let bench = Bench::new();
@@ -310,21 +327,41 @@ fn open_reports_every_lock() {
         let book = Book::long(kind);
         bench.write("book", &book.locked);
         let ran = bench.run_with("open book -o plain", book.password);
-        let report = book.report_in(book.locked.len());
-        let sealed = if report.summary_sealed { "yes" } else { "no" };
-        let expected = format!(
-            "records\t{}\nlock\t{}\nkey size\t{}\nsummary sealed\t{sealed}\noutput bytes\t{}\n\
-             enciphered body bytes\t{}\nblock keys\t{}\n",
-            report.records,
-            report.lock,
-            report.key_bits,
-            report.output_bytes,
-            report.enciphered_body_bytes,
-            report.block_keys
-        );
+        let expected = report_of(&book);
         assert_eq!((ran.status, ran.out, &ran.err[..]), (Some(0), expected, ""));
         assert!(bench.read("plain") == book.plain);
     }
+}
+
+#[test]
+fn padding_has_no_line_and_is_written_through() {
+    let bench = Bench::new();
+    for kind in KINDS {
+        for zeros in 1..=3 {
+            let (book, starts) = Book::of_sheets(kind, &[1000, 0], |place| place);
+            let book = book.padded(zeros);
+            bench.write("book", &book.locked);
+
+            let (records, _) = walk(&book.locked);
+            assert_eq!(records.len(), book.headers.len());
+            let lines = records.iter().map(|(at, id, body)| {
+                let (len, clear) = (body.len(), clear_len(*id, body.len()));
+                format!("{at}\t{id:04x}\t{len}\t{clear}\n")
+            });
+            let list = format!("at\tid\tlength\tclear\n{}", lines.collect::<String>());
+            let directory = format!("place\tstart\n0\t{}\n1\t{}\n", starts[0], starts[1]);
+            for (line, expected) in [
+                ("list book", list),
+                ("directory book", directory),
+                ("open book -o plain", report_of(&book)),
+            ] {
+                let ran = bench.run_with(line, book.password);
+                assert_eq!((ran.status, ran.out, &ran.err[..]), (Some(0), expected, ""));
+            }
+            assert!(bench.read("plain") == book.plain);
+        }
+    }
+    bench.has_only(&["book", "plain"]);
 }
 
 #[test]
@@ -403,7 +440,7 @@ fn streams_that_are_not_in_order_are_refused_by_number() {
     let protected = [(BOF, vec![]), (0x0086, vec![]), (FILEPASS, vec![])];
     for (stream, words) in [
         (locked[..1000].to_vec(), "refused, 6: "),
-        ([&locked[..], &[0; 3]].concat(), "at offset 3435; "),
+        ([&locked[..], &[0, 0, 1]].concat(), "at offset 3435; "),
         (b"plain words, and no book".to_vec(), "refused, 6: "),
         (Vec::new(), "refused, 7: "),
         (bench.plain(), "refused, 8: "),

@@ -3,8 +3,9 @@
 mod common;
 
 use common::bare::sheet_directory;
-use common::book::{entry, joined, Book, Kind, BOF, BOUND_SHEET, EOF, FILEPASS, KINDS};
+use common::book::{entry, joined, rows_in, Book, Kind, BOF, BOUND_SHEET, EOF, FILEPASS, KINDS};
 use common::guarded::Guarded;
+use common::walk::walk;
 use sheet::{Directory, Refusal, STREAM_MAX_LEN};
 
 /// The stream's length at which a look ends, which a directory does not mind.
@@ -264,7 +265,7 @@ fn bof_and_eof_pair_up_like_brackets() {
 #[test]
 fn the_checks_come_in_their_order() {
     let short = || (BOUND_SHEET, vec![0; 3]);
-    let cut = |records: &[(u16, Vec<u8>)]| [joined(records), vec![0; 3]].concat();
+    let cut = |records: &[(u16, Vec<u8>)]| [joined(records), vec![0, 0, 1]].concat();
     for (stream, expected) in [
         // 6 before all others but 4, though they stand before it.
         (cut(&[(ROW, vec![])]), refused(6, 4)),
@@ -339,10 +340,7 @@ fn all_eight_facts_are_written_whatever_the_answer() {
 #[test]
 fn a_book_of_a_mebibyte() {
     for kind in [Kind::Xor, Kind::CryptoApi(128, true)] {
-        let mut rows = vec![0; 300];
-        let bare = Book::of_sheets(kind, &rows, |place| place).0;
-        rows.fill((MEBIBYTE - bare.locked.len()) / 300);
-        rows[299] += (MEBIBYTE - bare.locked.len()) % 300;
+        let rows = rows_in(kind, 300, MEBIBYTE);
         let (book, starts) = Book::of_sheets(kind, &rows, |place| place);
         let (back, falling) = Book::of_sheets(kind, &rows, |place| 299 - place);
         assert!(falling.iter().rev().eq(&starts));
@@ -414,19 +412,9 @@ fn a_stream_of_a_gibibyte() {
 
 /// What the request's sentences give, from a list of all records.
 fn expected(stream: &[u8], place: usize) -> Result<Directory, Refusal> {
-    let mut records = Vec::new();
-    let mut at = 0;
-    while at < stream.len() {
-        let rest = &stream[at..];
-        let number = |k: usize| Some(u16::from_le_bytes([*rest.get(k)?, *rest.get(k + 1)?]));
-        let (Some(id), Some(len)) = (number(0), number(2)) else {
-            return refused(6, at);
-        };
-        let Some(body) = rest.get(4..4 + usize::from(len)) else {
-            return refused(6, at);
-        };
-        records.push((at, id, body));
-        at += 4 + body.len();
+    let (records, fault) = walk(stream);
+    if let Some(at) = fault {
+        return refused(6, at);
     }
     if records.first().map(|record| record.1) != Some(BOF) {
         return refused(7, 0);
@@ -508,6 +496,7 @@ fn random_streams_are_answered_as_the_request_says() {
         if draw(16) == 0 {
             stream.truncate(draw(stream.len() + 1));
         }
+        stream.resize(stream.len() + draw(4), 0);
         let place = draw(4);
         let answer = directory(&stream, place);
         assert_eq!(answer, expected(&stream, place), "{place} {stream:02x?}");

@@ -3,192 +3,15 @@
 
 mod common;
 
-use common::bare::{sheet_forecast, sheet_open};
-use common::book::{joined, Book, Kind, BOF, BOUND_SHEET, EOF, FILEPASS, KINDS};
-use common::guarded::{Guarded, FILL};
-use sheet::{Forecast, Refusal, Report, PASSWORD_MAX_LEN, SCRATCH_LEN, STREAM_MAX_LEN};
+use common::bare;
+use common::book::{book, front, joined, keys, Book, Kind, BOF, BOUND_SHEET, EOF, FILEPASS, KINDS};
+use common::opening::{check, check_book, counts, forecast, open, refused, told};
+use common::walk::walk;
+use sheet::{Forecast, Refusal, SCRATCH_LEN, STREAM_MAX_LEN};
 
 /// A record whose body is enciphered whole, and one whose body is clear.
 const ROW: u16 = 0x0204;
 const CLEAR: u16 = 0x00E1;
-
-/// The answer and the facts of a call without the wrapper. Sees that all eight are written, whatever
-/// stood there, and nothing beside them.
-#[track_caller]
-fn bare(mut call: impl FnMut(&mut [u64; 8]) -> u32) -> (u32, [u64; 8]) {
-    let [a, b] = [0xAAAA_AAAA_AAAA_AAAA, 0x5555_5555_5555_5555].map(|junk| {
-        let mut lent = [[junk; 8]; 3];
-        let number = call(&mut lent[1]);
-        assert_eq!((lent[0], lent[2]), ([junk; 8], [junk; 8]));
-        (number, lent[1])
-    });
-    assert_eq!(a, b, "a fact is not written");
-    a
-}
-
-#[track_caller]
-fn bare_forecast(stream: &[u8]) -> (u32, [u64; 8]) {
-    // SAFETY: the stream is lent with its length, and the eight numbers overlap nothing.
-    bare(|facts| unsafe { sheet_forecast(stream.as_ptr(), stream.len(), facts) })
-}
-
-#[track_caller]
-fn bare_open(stream: &[u8], password: &[u8]) -> (u32, [u64; 8]) {
-    let mut scratch = [0; SCRATCH_LEN];
-    let mut output = vec![0; stream.len()];
-    // SAFETY: as the wrapper has it.
-    bare(|facts| unsafe {
-        sheet_open(
-            stream.as_ptr(),
-            stream.len(),
-            password.as_ptr(),
-            password.len(),
-            scratch.as_mut_ptr(),
-            scratch.len(),
-            output.as_mut_ptr(),
-            output.len(),
-            facts,
-        )
-    })
-}
-
-/// A forecast with guard bytes around the stream. Sees that nothing is written there, and that the
-/// call without the wrapper tells the same, its other facts being 0.
-#[track_caller]
-fn forecast(stream: &[u8]) -> Result<Forecast, Refusal> {
-    let lent = Guarded::with(stream);
-    let answer = sheet::forecast(lent.get());
-    let facts = match answer {
-        Ok(told) => {
-            let [a, b, c, d] = counts(told).map(|count| count as u64);
-            (0, [a, b, c, d, 0, 0, 0, 0])
-        }
-        Err(refusal) => (refusal.number(), facts_of(refusal)),
-    };
-    assert_eq!(bare_forecast(lent.get()), facts);
-    lent.check_untouched();
-    answer
-}
-
-/// An opening with buffers that suffice, and the output.
-fn open(stream: &[u8], password: &[u8]) -> (Result<Report, Refusal>, Vec<u8>) {
-    let mut scratch = [0; SCRATCH_LEN];
-    let mut output = vec![FILL; stream.len()];
-    let answer = sheet::open(stream, password, &mut scratch, &mut output);
-    (answer, output)
-}
-
-/// The four counts, in the order of the request.
-fn counts(told: Forecast) -> [usize; 4] {
-    [
-        told.output_bytes,
-        told.records,
-        told.enciphered_body_bytes,
-        told.block_keys,
-    ]
-}
-
-fn facts_of(refusal: Refusal) -> [u64; 8] {
-    let [first, second] = refusal.details();
-    [first, second, 0, 0, 0, 0, 0, 0]
-}
-
-fn told(counts: [usize; 4]) -> Result<Forecast, Refusal> {
-    let [output_bytes, records, enciphered_body_bytes, block_keys] = counts;
-    Ok(Forecast {
-        output_bytes,
-        records,
-        enciphered_body_bytes,
-        block_keys,
-    })
-}
-
-fn refused(number: u32, details: [u64; 2]) -> Result<Forecast, Refusal> {
-    Err(Refusal::new(number, details))
-}
-
-/// Passwords that are well-formed: the shortest, one that every lock takes, and one of the longest.
-fn passwords() -> [String; 3] {
-    let longest = "№ 7 🕰 ".repeat(93) + "7";
-    assert_eq!(longest.len(), PASSWORD_MAX_LEN);
-    ["".into(), "A".into(), longest]
-}
-
-/// Sees that a stream is answered so, and that an opening that is lent enough and given another
-/// password is refused likewise, or else by 27.
-#[track_caller]
-fn check(stream: &[u8], expected: Result<Forecast, Refusal>) {
-    assert_eq!(forecast(stream), expected);
-    if let Ok(told) = expected {
-        assert!(told.enciphered_body_bytes + 4 * told.records <= stream.len());
-    }
-    let refusal = expected.err().unwrap_or(Refusal::new(27, [0, 0]));
-    for password in passwords() {
-        let password = password.as_bytes();
-        let (answer, output) = open(stream, password);
-        assert_eq!(answer, Err(refusal));
-        assert!(output.iter().all(|byte| *byte == FILL));
-        let facts = (refusal.number(), facts_of(refusal));
-        assert_eq!(bare_open(stream, password), facts);
-    }
-}
-
-/// Sees that a book is told of so, and that an opening with its password reports the same four.
-#[track_caller]
-fn check_book(book: &Book, counts: [usize; 4]) {
-    check(&book.locked, told(counts));
-    let password = book.password.as_bytes();
-    let (answer, output) = open(&book.locked, password);
-    assert!(output == book.plain);
-    let report = answer.unwrap();
-    let same = [
-        report.output_bytes,
-        report.records,
-        report.enciphered_body_bytes,
-        report.block_keys,
-    ];
-    assert_eq!(same, counts);
-    let [lock, bits, sealed] = match book.kind {
-        Kind::Xor => [0, 0, 0],
-        Kind::Office97 => [1, 40, 0],
-        Kind::CryptoApi(bits, sealed) => [2, bits.into(), sealed.into()],
-    };
-    let [output_bytes, records, enciphered, keys] = counts.map(|count| count as u64);
-    let facts = [
-        records,
-        lock,
-        bits,
-        sealed,
-        output_bytes,
-        enciphered,
-        keys,
-        0,
-    ];
-    assert_eq!(bare_open(&book.locked, password), (0, facts));
-}
-
-/// A book of BOF, the lock, and these records.
-fn book(kind: Kind, behind: &[(u16, Vec<u8>)]) -> Book {
-    let front = [(BOF, vec![0, 6, 5, 0]), (FILEPASS, vec![])];
-    Book::new(kind, kind.password(), &[&front, behind].concat())
-}
-
-/// The bytes of these books before the other records: two headers, BOF's body, and the lock.
-fn front(kind: Kind) -> usize {
-    match kind {
-        Kind::Xor => 4 + 4 + 4 + 6,
-        Kind::Office97 => 4 + 4 + 4 + 54,
-        Kind::CryptoApi(..) => 4 + 4 + 4 + 122,
-    }
-}
-
-/// The block keys that are derived for these books, if so many are under RC4.
-fn keys(kind: Kind, rc4: usize) -> usize {
-    match kind {
-        Kind::Xor => 0,
-        _ => rc4,
-    }
-}
 
 #[test]
 fn a_key_for_each_started_block_and_one_for_the_check() {
@@ -336,7 +159,7 @@ fn a_book_cut_at_every_length() {
                 check(stream, refused(8, [0, 0]));
             } else {
                 check(stream, Ok(whole.forecast_in(len)));
-                let (answer, _) = open(stream, whole.password.as_bytes());
+                let answer = open(stream, whole.password.as_bytes());
                 assert_eq!(answer, Ok(whole.report_in(len)));
             }
         }
@@ -371,7 +194,7 @@ fn bodies_make_no_difference() {
 #[test]
 fn an_empty_stream() {
     assert_eq!(sheet::forecast(&[]), refused(7, [0, 0]));
-    assert_eq!(bare_forecast(&[]), (7, [0; 8]));
+    assert_eq!(bare::forecast(&[]), (7, [0; 8]));
     check(&[], refused(7, [0, 0]));
 }
 
@@ -383,7 +206,7 @@ struct Parts {
     before: u16,
     filepass: u16,
     lock: Lock,
-    behind: usize,
+    behind: &'static [u8],
 }
 
 /// The fields of a CryptoAPI lock, and how many bytes of the FILEPASS body are left at most.
@@ -408,7 +231,7 @@ const PARTS: Parts = Parts {
     before: CLEAR,
     filepass: FILEPASS,
     lock: LOCK,
-    behind: 0,
+    behind: &[],
 };
 
 const LOCK: Lock = Lock {
@@ -433,14 +256,14 @@ impl Parts {
             (self.filepass, self.lock.body()),
             (ROW, vec![1, 2, 3]),
         ]);
-        [records, vec![0; self.behind]].concat()
+        [&records[..], self.behind].concat()
     }
 
     /// Makes the question with a number be answered by no.
     fn spoil(&mut self, number: u32) {
         let lock = &mut self.lock;
         match number {
-            6 => self.behind = 3,
+            6 => self.behind = &[0, 0, 1],
             7 => self.first = CLEAR,
             8 => self.filepass = CLEAR,
             9 => self.before = 0x0042,
@@ -575,7 +398,7 @@ fn a_lock_of_version_1_1_or_of_xor_that_is_cut() {
         check(&records(BOF, CLEAR, body), refused(number, details));
         check(&records(CLEAR, CLEAR, body), refused(7, [0, 0]));
         check(&records(BOF, EOF, body), refused(9, [0x000A, 0]));
-        let cut = [records(CLEAR, EOF, body), vec![0; 2]].concat();
+        let cut = [records(CLEAR, EOF, body), vec![0, 1]].concat();
         check(&cut, refused(6, [cut.len() as u64 - 2, 0]));
     }
 }
@@ -680,7 +503,7 @@ fn every_record_before_the_lock() {
             _ => refused(9, [id.into(), 0]),
         };
         assert_eq!(forecast(&stream), expected, "{id:04x}");
-        assert_eq!(open(&stream, b"").0.err(), expected.err(), "{id:04x}");
+        assert_eq!(open(&stream, b"").err(), expected.err(), "{id:04x}");
     }
 }
 
@@ -695,7 +518,7 @@ fn a_stream_of_a_gibibyte() {
             sheet::open(&stream[..len], b"", &mut scratch, &mut output[..len]).err()
         };
         for len in [STREAM_MAX_LEN + 4, STREAM_MAX_LEN + 1] {
-            assert_eq!(bare_forecast(&stream[..len]), (4, [0; 8]));
+            assert_eq!(bare::forecast(&stream[..len]), (4, [0; 8]));
             assert_eq!(sheet::forecast(&stream[..len]), refused(4, [0, 0]));
             assert_eq!(open(len), Some(Refusal::new(4, [0, 0])));
         }
@@ -718,41 +541,36 @@ fn a_stream_of_a_gibibyte() {
         let records = 2 + (64 - lock_end) / 4 + 1024 + 251_658_224;
         let counts = [1_073_741_824, records, 67_104_768, keys];
         at_both_sides(&stream, told(counts));
-        // A byte less, and the last record is cut.
-        let cut = sheet::forecast(&stream[..STREAM_MAX_LEN - 1]);
-        assert_eq!(cut, refused(6, [1_073_741_820, 0]));
+        // A byte less, and the last record is padding; or it is cut, if one of its bytes is not zero.
+        let len = STREAM_MAX_LEN - 1;
+        let padded = told([len, records - 1, 67_104_768, keys]);
+        assert_eq!(sheet::forecast(&stream[..len]), padded);
+        stream[len - 1] = 1;
+        let cut = refused(6, [1_073_741_820, 0]);
+        assert_eq!(sheet::forecast(&stream[..len]), cut);
+        stream[len - 1] = 0;
     }
 }
 
 /// What documents 01 and 02 give, from a list of all records.
 fn expected(stream: &[u8]) -> Result<Forecast, Refusal> {
-    let mut records = Vec::new();
-    let mut at = 0;
-    while at < stream.len() {
-        let rest = &stream[at..];
-        let number = |k: usize| Some(u16::from_le_bytes([*rest.get(k)?, *rest.get(k + 1)?]));
-        let (Some(id), Some(len)) = (number(0), number(2)) else {
-            return refused(6, [at as u64, 0]);
-        };
-        let Some(body) = rest.get(4..4 + usize::from(len)) else {
-            return refused(6, [at as u64, 0]);
-        };
-        records.push((id, body));
-        at += 4 + body.len();
+    let (records, fault) = walk(stream);
+    if let Some(at) = fault {
+        return refused(6, [at as u64, 0]);
     }
-    if records.first().map(|record| record.0) != Some(BOF) {
+    if records.first().map(|record| record.1) != Some(BOF) {
         return refused(7, [0, 0]);
     }
-    let Some(place) = records.iter().position(|(id, _)| *id == FILEPASS) else {
+    let Some(place) = records.iter().position(|(_, id, _)| *id == FILEPASS) else {
         return refused(8, [0, 0]);
     };
     let clear = [BOF, FILEPASS, 0x00E1, 0x0138, 0x0194, 0x0195, 0x0196];
     let mut before = records[..place].iter();
-    if let Some((id, _)) = before.find(|(id, _)| !clear.contains(id)) {
+    if let Some((_, id, _)) = before.find(|(_, id, _)| !clear.contains(id)) {
         return refused(9, [(*id).into(), 0]);
     }
-    let xor = expected_lock(records[place].1)?;
-    let enciphered = records.iter().map(|(id, body)| match id {
+    let xor = expected_lock(records[place].2)?;
+    let enciphered = records.iter().map(|(_, id, body)| match id {
         _ if clear.contains(id) => 0,
         0x0085 => body.len().saturating_sub(4),
         _ => body.len(),
@@ -837,8 +655,9 @@ fn expected_lock(body: &[u8]) -> Result<bool, Refusal> {
 #[test]
 fn random_streams_are_answered_as_the_documents_say() {
     let mut draw = common::draws(4);
-    // How often each came: streams that are told of, and the refusals.
+    // How often each came: streams that are told of, and the refusals; and those told of with padding.
     let mut counts = std::collections::BTreeMap::new();
+    let mut padded = 0;
     for _ in 0..20_000 {
         let mut parts = PARTS;
         // None to three questions are answered by no.
@@ -865,17 +684,21 @@ fn random_streams_are_answered_as_the_documents_say() {
             records.push((id, vec![id as u8; draw(longest)]));
         }
         let mut stream = joined(&records);
-        stream.resize(stream.len() + parts.behind, 0);
+        stream.extend(parts.behind);
         if draw(16) == 0 {
             stream.truncate(draw(stream.len() + 1));
         }
+        let zeros = draw(4);
+        stream.resize(stream.len() + zeros, 0);
         let answer = forecast(&stream);
         assert_eq!(answer, expected(&stream), "{stream:02x?}");
         let refusal = answer.err().unwrap_or(Refusal::new(27, [0, 0]));
-        assert_eq!(open(&stream, b"").0, Err(refusal), "{stream:02x?}");
+        assert_eq!(open(&stream, b""), Err(refusal), "{stream:02x?}");
         *counts.entry(refusal.number()).or_insert(0) += 1;
+        padded += usize::from(answer.is_ok() && zeros > 0);
     }
     for number in 6..=27 {
         assert!(counts.get(&number).is_some_and(|n| *n > 50), "{counts:?}");
     }
+    assert!(padded > 500, "{padded}");
 }

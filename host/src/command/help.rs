@@ -50,8 +50,10 @@ PRINTED, with a tab between the columns:
           to tell). For a locked one also, where they are told, lock, version,
           and key size in bits
   list    at: the offset of the record; id, hexadecimal; length of its body;
-          clear: how many of the body's first bytes are never enciphered. If a
-          record can't be read, a last line says unreadable, and its offset
+          clear: how many of the body's first bytes are never enciphered. One
+          to three zero bytes behind the last record are padding, and have no
+          line. If a record can't be read, a last line says unreadable, and its
+          offset
   directory
           place: of the sheet in the workbook, counted from 0; start: the
           offset of its BOF record in FILE. A FILE that is made to be slow can

@@ -1,6 +1,15 @@
-//! Functions of the library, to be called without the wrapper.
+//! Functions of the library, to be called without the wrapper, and all eight facts of such a call.
+
+use sheet::SCRATCH_LEN;
 
 extern "C" {
+    pub fn sheet_record(
+        stream: *const u8,
+        stream_len: usize,
+        at: usize,
+        facts: *mut [u64; 8],
+    ) -> u32;
+
     pub fn sheet_directory(
         stream: *const u8,
         stream_len: usize,
@@ -21,4 +30,59 @@ extern "C" {
         output_len: usize,
         facts: *mut [u64; 8],
     ) -> u32;
+}
+
+/// The answer and the facts of a call without the wrapper.
+pub type Answer = (u32, [u64; 8]);
+
+/// Makes a call, and sees that all eight facts are written, whatever stood there, and nothing beside
+/// them.
+#[track_caller]
+fn answer(mut call: impl FnMut(&mut [u64; 8]) -> u32) -> Answer {
+    let [a, b] = [0xAAAA_AAAA_AAAA_AAAA, 0x5555_5555_5555_5555].map(|junk| {
+        let mut lent = [[junk; 8]; 3];
+        let number = call(&mut lent[1]);
+        assert_eq!((lent[0], lent[2]), ([junk; 8], [junk; 8]));
+        (number, lent[1])
+    });
+    assert_eq!(a, b, "a fact is not written");
+    a
+}
+
+#[track_caller]
+pub fn record(stream: &[u8], at: usize) -> Answer {
+    // SAFETY: the stream is lent with its length, and the eight numbers overlap nothing.
+    answer(|facts| unsafe { sheet_record(stream.as_ptr(), stream.len(), at, facts) })
+}
+
+#[track_caller]
+pub fn directory(stream: &[u8], place: usize) -> Answer {
+    // SAFETY: the stream is lent with its length, and the eight numbers overlap nothing.
+    answer(|facts| unsafe { sheet_directory(stream.as_ptr(), stream.len(), place, facts) })
+}
+
+#[track_caller]
+pub fn forecast(stream: &[u8]) -> Answer {
+    // SAFETY: the stream is lent with its length, and the eight numbers overlap nothing.
+    answer(|facts| unsafe { sheet_forecast(stream.as_ptr(), stream.len(), facts) })
+}
+
+#[track_caller]
+pub fn open(stream: &[u8], password: &[u8]) -> Answer {
+    let mut scratch = [0; SCRATCH_LEN];
+    let mut output = vec![0; stream.len()];
+    // SAFETY: as the wrapper has it.
+    answer(|facts| unsafe {
+        sheet_open(
+            stream.as_ptr(),
+            stream.len(),
+            password.as_ptr(),
+            password.len(),
+            scratch.as_mut_ptr(),
+            scratch.len(),
+            output.as_mut_ptr(),
+            output.len(),
+            facts,
+        )
+    })
 }

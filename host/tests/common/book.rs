@@ -70,6 +70,22 @@ impl Kind {
         }
     }
 
+    /// What a look tells of the lock if so many bytes of the FILEPASS body are there.
+    pub fn facts(self, body: usize) -> sheet::Facts {
+        sheet::Facts {
+            xor: self == Kind::Xor && body >= 2,
+            version: match self {
+                Kind::Office97 if body >= 6 => Some((1, 1)),
+                Kind::CryptoApi(..) if body >= 6 => Some((4, 2)),
+                _ => None,
+            },
+            key_size: match self {
+                Kind::CryptoApi(bits, _) if body >= 34 => Some(bits),
+                _ => None,
+            },
+        }
+    }
+
     /// The number and the details of the refusal of a FILEPASS body of which only so many bytes are
     /// there.
     pub fn cut_at(self, len: usize) -> (u32, [u64; 2]) {
@@ -257,6 +273,14 @@ impl Book {
         (Book::new(kind, kind.password(), &records(&starts)), starts)
     }
 
+    /// The same with zero bytes behind its last record, of which there are fewer than four: padding.
+    pub fn padded(mut self, zeros: usize) -> Book {
+        for stream in [&mut self.locked, &mut self.plain] {
+            stream.resize(stream.len() + zeros, 0);
+        }
+        self
+    }
+
     /// The first FILEPASS: the offsets of its header and of its body's end.
     pub fn filepass(&self) -> (usize, usize) {
         (self.headers[2], self.headers[3])
@@ -275,7 +299,7 @@ impl Book {
         self.headers.iter().filter(|at| **at < len).count()
     }
 
-    /// What opening the first `len` bytes takes, where they end behind a record.
+    /// What opening the first `len` bytes takes, where they end behind a record or in padding.
     pub fn forecast_in(&self, len: usize) -> sheet::Forecast {
         let records = self.records_in(len);
         sheet::Forecast {
@@ -290,7 +314,8 @@ impl Book {
         }
     }
 
-    /// What is told when the first `len` bytes are opened, where they end behind a record.
+    /// What is told when the first `len` bytes are opened, where they end behind a record or in
+    /// padding.
     pub fn report_in(&self, len: usize) -> sheet::Report {
         let (lock, key_bits, summary_sealed) = match self.kind {
             Kind::Xor => (sheet::Lock::Xor, 0, false),
@@ -308,6 +333,38 @@ impl Book {
             block_keys: counts.block_keys,
         }
     }
+}
+
+/// A book of BOF, the lock, and these records.
+pub fn book(kind: Kind, behind: &[(u16, Vec<u8>)]) -> Book {
+    let front = [(BOF, vec![0, 6, 5, 0]), (FILEPASS, vec![])];
+    Book::new(kind, kind.password(), &[&front, behind].concat())
+}
+
+/// The bytes of these books before the other records: two headers, BOF's body, and the lock.
+pub fn front(kind: Kind) -> usize {
+    match kind {
+        Kind::Xor => 4 + 4 + 4 + 6,
+        Kind::Office97 => 4 + 4 + 4 + 54,
+        Kind::CryptoApi(..) => 4 + 4 + 4 + 122,
+    }
+}
+
+/// The block keys that are derived for these books, if so many are under RC4.
+pub fn keys(kind: Kind, rc4: usize) -> usize {
+    match kind {
+        Kind::Xor => 0,
+        _ => rc4,
+    }
+}
+
+/// The bytes of rows in each of so many sheets, of which a book of this length is made.
+pub fn rows_in(kind: Kind, sheets: usize, len: usize) -> Vec<usize> {
+    let none = Book::of_sheets(kind, &vec![0; sheets], |place| place).0;
+    let left = len - none.locked.len();
+    let mut rows = vec![left / sheets; sheets];
+    rows[sheets - 1] += left % sheets;
+    rows
 }
 
 pub fn header(id: u16, len: usize) -> Vec<u8> {

@@ -7,9 +7,12 @@ pub mod book;
 pub mod digest;
 pub mod folder;
 pub mod guarded;
+pub mod lent;
+pub mod opening;
 pub mod process;
 pub mod pty;
 pub mod rc4;
+pub mod walk;
 pub mod xor;
 
 /// Numbers below a bound, always the same ones for a seed.

@@ -1,0 +1,69 @@
+//! The buffers that are lent to an opening.
+
+use sheet::{Refusal, Report, SCRATCH_LEN};
+
+use super::guarded::{Guarded, FILL};
+
+/// The buffers of a call to `open`.
+pub struct Lent {
+    stream: Guarded,
+    password: Guarded,
+    scratch: Guarded,
+    output: Guarded,
+}
+
+impl Lent {
+    pub fn new(stream: &[u8], password: &[u8], scratch: usize, output: usize) -> Lent {
+        Lent {
+            stream: Guarded::with(stream),
+            password: Guarded::with(password),
+            scratch: Guarded::filled(scratch),
+            output: Guarded::filled(output),
+        }
+    }
+
+    /// Buffers that suffice.
+    pub fn enough(stream: &[u8], password: &[u8]) -> Lent {
+        Lent::new(stream, password, SCRATCH_LEN, stream.len())
+    }
+
+    /// Opens, and sees that nothing is written beside the buffers, nor to what is read, nor to the
+    /// output if refused, and that the scratch is as promised.
+    #[track_caller]
+    pub fn open(&mut self) -> Result<Report, Refusal> {
+        let answer = sheet::open(
+            self.stream.get(),
+            self.password.get(),
+            self.scratch.get_mut(),
+            self.output.get_mut(),
+        );
+        self.stream.check_untouched();
+        self.password.check_untouched();
+        self.scratch.check_guards();
+        self.output.check_guards();
+        match answer {
+            Ok(_) => {
+                let behind = &self.output.get()[self.stream.get().len()..];
+                assert!(behind.iter().all(|byte| *byte == FILL));
+            }
+            Err(_) => self.output.check_untouched(),
+        }
+        match answer {
+            Err(refusal) if refusal.number() <= 5 => self.scratch.check_untouched(),
+            _ => {
+                let (used, behind) = self.scratch.get().split_at(SCRATCH_LEN);
+                assert!(used.iter().all(|byte| *byte == 0));
+                assert!(behind.iter().all(|byte| *byte == FILL));
+            }
+        }
+        answer
+    }
+
+    /// Opens, and sees that the plain stream comes out.
+    #[track_caller]
+    pub fn open_to(&mut self, plain: &[u8]) -> Report {
+        let report = self.open().unwrap();
+        assert!(&self.output.get()[..self.stream.get().len()] == plain);
+        report
+    }
+}
