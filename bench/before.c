@@ -1,4 +1,4 @@
-/* Times the key mixing and Open of two trees' archives beside each other, in one run, on the same keys, streams and buffers: this tree's, and an earlier one's,
+/* Times the key mixing, the walk, the forecast and Open of two trees' archives beside each other, in one run, on the same keys, streams and buffers: this tree's, and an earlier one's,
    whose functions have before_ ahead of their names. Each figure is the best of several rounds in which the two take turns; what each computes is compared
    with OpenSSL's keystream, and with the plain stream. */
 #include "../include/sheet.h"
@@ -11,6 +11,8 @@
 #define TREE(p) \
     bool p##bench_rc4(const uint8_t *key, size_t key_len, const uint8_t *src, size_t src_len, uint8_t *dst, size_t dst_len); \
     bool p##bench_rc4_halves(const uint8_t *key, size_t key_len, const uint8_t *other, size_t other_len, const uint8_t *src, size_t src_len, uint8_t *dst, size_t dst_len); \
+    size_t p##bench_walk(const uint8_t *stream, size_t stream_len); \
+    uint32_t p##sheet_forecast(const uint8_t *stream, size_t stream_len, uint64_t facts[8]); \
     uint32_t p##sheet_open(const uint8_t *stream, size_t stream_len, const uint8_t *password, size_t password_len, uint8_t *scratch, size_t scratch_len, uint8_t *output, size_t output_len, uint64_t facts[8]);
 TREE()
 TREE(before_)
@@ -70,13 +72,42 @@ static void mixing(int keys, size_t key_len)
     printf("%-42s before %5.0f ns   now %5.0f ns   %.3f times as fast\n", name, best[1] / MIXINGS * 1e9, best[0] / MIXINGS * 1e9, best[1] / best[0]);
 }
 
-static void opening(unsigned bits, size_t body)
+/* the walk alone, and the forecast, which must count the same records */
+static void walking(size_t body)
+{
+    size_t len = make(2, 128, body, SIZE);
+    double best[2][2] = {{1e9, 1e9}, {1e9, 1e9}};
+    for (int round = 0; round < ROUNDS; round++)
+        for (int who = 0; who < 2; who++) {
+            uint64_t facts[8];
+            double t = now();
+            size_t records = (who ? before_bench_walk : bench_walk)(stream, len);
+            double u = now();
+            uint32_t answer = (who ? before_sheet_forecast : sheet_forecast)(stream, len, facts);
+            double v = now();
+            if (answer || facts[1] != records) {
+                printf("%s forecasts something else\n", who ? "the earlier tree" : "this tree");
+                exit(1);
+            }
+            if (u - t < best[0][who])
+                best[0][who] = u - t;
+            if (v - u < best[1][who])
+                best[1][who] = v - u;
+        }
+    for (int n = 0; n < 2; n++)
+        printf("%s, bodies of %-26zu before %5.2f ms   now %5.2f ms   %.3f times as fast\n", n ? "forecast" : "walk    ", body, best[n][1] * 1e3, best[n][0] * 1e3, best[n][1] / best[n][0]);
+}
+
+static void opening(int lock, unsigned bits, size_t body)
 {
     char name[64];
-    size_t len = make(2, bits, body, SIZE);
+    size_t len = make(lock, bits, body, SIZE);
     double best[2] = {1e9, 1e9};
     uint64_t facts[8];
-    snprintf(name, sizeof name, "Open, CryptoAPI %u, bodies of %zu bytes", bits, body);
+    if (lock)
+        snprintf(name, sizeof name, "Open, CryptoAPI %u, bodies of %zu bytes", bits, body);
+    else
+        snprintf(name, sizeof name, "Open, XOR, bodies of %zu bytes", body);
     for (int round = 0; round < ROUNDS; round++)
         for (int who = 0; who < 2; who++) {
             if (round == 0)
@@ -93,7 +124,7 @@ static void opening(unsigned bits, size_t body)
             if (t < best[who])
                 best[who] = t;
         }
-    printf("%-42s before %3.0f MB/s   now %3.0f MB/s   %.3f times as fast\n", name, len / best[1] / 1e6, len / best[0] / 1e6, best[1] / best[0]);
+    printf("%-42s before %5.0f MB/s   now %5.0f MB/s   %.3f times as fast\n", name, len / best[1] / 1e6, len / best[0] / 1e6, best[1] / best[0]);
 }
 
 int main(void)
@@ -106,9 +137,13 @@ int main(void)
     for (int keys = 1; keys <= 2; keys++)
         for (size_t i = 0; i < sizeof lengths / sizeof *lengths; i++)
             mixing(keys, lengths[i]);
+    walking(8224);
+    walking(14);
     for (int i = 0; i < 2; i++) {
-        opening(sizes[i], 8224);
-        opening(sizes[i], 14);
+        opening(2, sizes[i], 8224);
+        opening(2, sizes[i], 14);
     }
+    opening(0, 0, 8224);
+    opening(0, 0, 14);
     return 0;
 }
