@@ -85,6 +85,14 @@ fn fill(text: &[u8], at: usize, skip: usize, block: &mut [u8], n: usize) -> Fill
     Filled { at, skip, n }
 }
 
+// Writes the encoding's next bytes to the block, from its start on: the bytes of the block before are hashed.
+fn refill(text: &[u8], f: Filled, block: &mut [u8]) -> Filled
+    requires { ⌜ (length (now block) ≡ 64) × (f .skip < 4) ⌝ }
+    ensures { λ r. ⌜ Fills (now (text .entry)) (now (block .entry)) (f .at) (f .skip) 0 (now (block .exit)) (r .at) (r .skip) (r .n) ⌝ }
+{
+    fill(text, f.at, f.skip, block, 0)
+}
+
 // Copies the salt to the start of the block.
 fn put_salt(salt: [u8; 16], block: &mut [u8])
     requires { ⌜ length (now block) ≡ 64 ⌝ }
@@ -107,7 +115,7 @@ fn sha1_text(salt: [u8; 16], text: &[u8], block: &mut [u8], total: u64) -> [u8; 
     let mut f = fill(text, 0, 0, block, 16);
     while f.n == 64 {
         h = sha1::compress_all(h, block);
-        f = fill(text, f.at, f.skip, block, 0);
+        f = refill(text, f, block);
     }
     let n = f.n;
     sha1::finish(h, &block[..n], total)
@@ -122,7 +130,7 @@ fn md5_text(text: &[u8], block: &mut [u8], total: u64) -> [u8; 16]
     let mut f = fill(text, 0, 0, block, 0);
     while f.n == 64 {
         h = md5::compress_all(h, block);
-        f = fill(text, f.at, f.skip, block, 0);
+        f = refill(text, f, block);
     }
     let n = f.n;
     md5::finish(h, &block[..n], total)
