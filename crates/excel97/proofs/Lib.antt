@@ -5,6 +5,7 @@ pub mod Padded
 pub mod PlainBytes
 pub mod Records
 pub mod SameBounds
+pub mod Scratch
 pub mod Settled
 pub mod ShortBooks
 pub mod Through

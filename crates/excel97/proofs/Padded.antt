@@ -19,13 +19,13 @@ use Rattle.binary_office.proofs.Walks.{record-within}
 use Rattle.binary_office.proofs.Along.{end-within}
 use Rattle.binary_office.proofs.Remainder.{padded-length, remainders}
 use Rattle.file_params.specs.declared.Refusal.{Refusal}
-use Rattle.file_params.specs.Questions.{asked, lent, book, ofStream, questions, filepass, bodyOf, filepassBody, structureOf, typeOf}
+use Rattle.file_params.specs.Questions.{scratchNeed, asked, lent, book, ofStream, questions, filepass, bodyOf, filepassBody, structureOf, typeOf}
 use Rattle.block_keys.proofs.Parts.{part-size}
 use Rattle.survey.specs.Survey.{encipheredBytes, blockKeys}
 use Rattle.survey.proofs.Records.{located}
 use Rattle.excel97.specs.declared.Answer.{Answer}
 use Rattle.excel97.specs.declared.Answer.the-variants.{Opened, Refused}
-use Rattle.excel97.specs.Open.{passes, plainAt, plain, xorReport, rc4Report, report, outcomeBy, outcome}
+use Rattle.excel97.specs.Open.{passes, plainAt, plain, xorReport, rc4Report, report, outcomeBy, outcomeWith}
 use Rattle.excel97.specs.Padded.{paddedReport, Padded, OfAnyPaddedBook}
 use Rattle.excel97.proofs.PlainBytes.{length-plain, plain-at, behind-byte}
 
@@ -42,7 +42,8 @@ part-kept s t start n h =
     ∙ sym (getD-take n (drop start s) i 0 m ∙ getD-drop start s i 0))
 
 -- questions 4 and 5 where the stream fits
-lent-same : (p : List ℕ) (n m scratch output : ℕ) → n ≤ 1073741824 → n ≤ output → m ≤ 1073741824 → m ≤ output → lent p n scratch output ≡ lent p m scratch output
+lent-same : (p : List ℕ) (n m scratch output : ℕ) → n ≤ 1073741824 → n ≤ output → m ≤ 1073741824 → m ≤ output
+    → lent scratchNeed p n scratch output ≡ lent scratchNeed p m scratch output
 unfolding lent
 lent-same p n m scratch output a b c d = rw (le-leb n 1073741824 a, le-leb n output b, le-leb m 1073741824 c, le-leb m output d)
 
@@ -113,9 +114,9 @@ module _ (s : List ℕ) (n : ℕ) (filled : remainder s ≡ []) (most : n ≤ 3)
 
   module _ (p scratch output : List ℕ) (fits : length s + n ≤ 1073741824) (room : length s + n ≤ length output) where
     abbrev answer : Option Refusal
-    answer = asked (questions s p scratch output (passes (filepassBody s) p))
+    answer = asked (questions scratchNeed s p scratch output (passes (filepassBody s) p))
 
-    same-answer : asked (questions longer p scratch output (passes (filepassBody longer) p)) ≡ answer
+    same-answer : asked (questions scratchNeed longer p scratch output (passes (filepassBody longer) p)) ≡ answer
     unfolding questions
     same-answer =
         let k = size in
@@ -123,9 +124,10 @@ module _ (s : List ℕ) (n : ℕ) (filled : remainder s ≡ []) (most : n ≤ 3)
         rw (lending, same-questions, same-body)
 
     by-answer : (d : Option Refusal) (a b : Answer) (scratch₁ output₁ scratch₂ output₂ : List ℕ)
-        → a ≡ outcomeBy s p scratch output d .answer → scratch₁ ≡ outcomeBy s p scratch output d .scratch → output₁ ≡ outcomeBy s p scratch output d .output
-        → b ≡ outcomeBy longer p scratch output d .answer → scratch₂ ≡ outcomeBy longer p scratch output d .scratch
-        → output₂ ≡ outcomeBy longer p scratch output d .output → Padded s output n a b scratch₁ output₁ scratch₂ output₂
+        → a ≡ outcomeBy scratchNeed s p scratch output d .answer → scratch₁ ≡ outcomeBy scratchNeed s p scratch output d .scratch
+        → output₁ ≡ outcomeBy scratchNeed s p scratch output d .output
+        → b ≡ outcomeBy scratchNeed longer p scratch output d .answer → scratch₂ ≡ outcomeBy scratchNeed longer p scratch output d .scratch
+        → output₂ ≡ outcomeBy scratchNeed longer p scratch output d .output → Padded s output n a b scratch₁ output₁ scratch₂ output₂
     by-answer none a b scratch₁ output₁ scratch₂ output₂ ea es eo eb et eq =
         record {
           refused-to = λ r e. let z : Opened (report s) ≡ Refused r = sym ea ∙ e in cc;
@@ -149,11 +151,11 @@ module _ (s : List ℕ) (n : ℕ) (filled : remainder s ≡ []) (most : n ≤ 3)
         }
 
 pub padded-book : OfAnyPaddedBook
-unfolding outcome
+unfolding outcomeWith
 padded-book s p scratch output n a b scratch₁ output₁ scratch₂ output₂ filled most fits room run₁ run₂ =
     let same = same-answer s n filled most p scratch output fits room in
     by-answer s n filled most p scratch output fits room (answer s n filled most p scratch output fits room) a b scratch₁ output₁ scratch₂ output₂
     (run₁ .answered) (run₁ .scratch-left) (run₁ .output-left)
-    (run₂ .answered ∙ ap (λ (d : Option Refusal). outcomeBy (s ++ zeroBytes n) p scratch output d .answer) same)
-    (run₂ .scratch-left ∙ ap (λ (d : Option Refusal). outcomeBy (s ++ zeroBytes n) p scratch output d .scratch) same)
-    (run₂ .output-left ∙ ap (λ (d : Option Refusal). outcomeBy (s ++ zeroBytes n) p scratch output d .output) same)
+    (run₂ .answered ∙ ap (λ (d : Option Refusal). outcomeBy scratchNeed (s ++ zeroBytes n) p scratch output d .answer) same)
+    (run₂ .scratch-left ∙ ap (λ (d : Option Refusal). outcomeBy scratchNeed (s ++ zeroBytes n) p scratch output d .scratch) same)
+    (run₂ .output-left ∙ ap (λ (d : Option Refusal). outcomeBy scratchNeed (s ++ zeroBytes n) p scratch output d .output) same)

@@ -8,14 +8,13 @@ use Prim.Native.Nat.{ℕ, _+_, _≤_}
 use borrow.Author.Tests.{eq-eqb, le-leb, lt-leb, leb-true}
 use lib.Dec.{eqb, leb}
 use lib.ListN.{length, drop, replicate}
-use lib.Seq.{drop-drop}
 use Rattle.laws.specs.Choice.{pick}
 use Rattle.laws.proofs.Choice.{taken, left, stop}
 use Rattle.sensitive.specs.Utf8.{wellFormed}
 use Rattle.binary_office.specs.Walk.{walk}
 use Rattle.file_params.specs.declared.Refusal.{Refusal}
 use Rattle.file_params.specs.declared.Refusal.the-variants.{WrongPassword}
-use Rattle.file_params.specs.Questions.{ask, asked, lent, lock, ofStream, questions, filepassBody, typeOf, structureOf}
+use Rattle.file_params.specs.Questions.{scratchNeed, ask, asked, lent, lock, ofStream, questions, filepassBody, typeOf, structureOf}
 use Rattle.file_params.specs.Refusal.{number}
 use Rattle.file_params.proofs.Laws.{asked-on, asked-stop, none-of-both, first-yes, rest-yes}
 use Rattle.file_params.proofs.Tables.{given-passes}
@@ -31,7 +30,7 @@ use Rattle.survey.proofs.Told.{ends-clean, placed}
 use Rattle.excel97.specs.declared.Answer.{Answer}
 use Rattle.excel97.specs.declared.Answer.the-variants.{Opened, Refused}
 use Rattle.excel97.specs.declared.Report.{Report}
-use Rattle.excel97.specs.Open.{passes, plain, report, xorReport, rc4Report, wiped, outcomeBy, outcome, Opens}
+use Rattle.excel97.specs.Open.{passes, plain, report, xorReport, rc4Report, wiped, outcomeBy, outcomeWith, Opens}
 use Rattle.excel97.specs.Steps.{Unlocks, Ready, laterRefusal, Settles}
 use Rattle.excel97.proofs.Answers.{later-number, Ran, opening}
 
@@ -77,7 +76,8 @@ module _ (s : List ℕ) (b : Book) (eb : b ≡ bookOf s) where
 
 -- refused: nothing is touched
 module _ (s p w o : List ℕ) where
-  settled-by : (d : Option Refusal) (r : Refusal) → some r ≡ d → (Refused r ≡ outcomeBy s p w o d .answer) × (o ≡ outcomeBy s p w o d .output)
+  settled-by : (d : Option Refusal) (r : Refusal) → some r ≡ d
+      → (Refused r ≡ outcomeBy scratchNeed s p w o d .answer) × (o ≡ outcomeBy scratchNeed s p w o d .output)
   settled-by none r e = (cc, cc)
   settled-by (some q) r e = (let z : r ≡ q = cc in ap Refused z, refl)
 
@@ -104,57 +104,55 @@ module _ (s p w o : List ℕ) where
 -- the whole
 module _ (s p w o : List ℕ) where
   abbrev all : Option Refusal
-  all = asked (questions s p w o (passes (filepassBody s) p))
+  all = asked (questions scratchNeed s p w o (passes (filepassBody s) p))
 
-  pub refused-lent : (r : Refusal) → some r ≡ asked (lent p (length s) (length w) (length o)) → Opens s p w o (Refused r) w o
-  unfolding outcome questions lent
+  pub refused-lent : (r : Refusal) → some r ≡ asked (lent scratchNeed p (length s) (length w) (length o)) → Opens s p w o (Refused r) w o
+  unfolding outcomeWith questions lent
   refused-lent r e =
-      let g = asked-stop (lent p (length s) (length w) (length o)) (ofStream s ++ (ask (passes (filepassBody s) p) WrongPassword ∷ [])) r e in
-      let n = given-passes (λ (q : Refusal). leb (number q) 5) (lent p (length s) (length w) (length o)) r refl (sym e) in
+      let g = asked-stop (lent scratchNeed p (length s) (length w) (length o)) (ofStream s ++ (ask (passes (filepassBody s) p) WrongPassword ∷ [])) r e in
+      let n = given-passes (λ (q : Refusal). leb (number q) 5) (lent scratchNeed p (length s) (length w) (length o)) r refl (sym e) in
       record {
-        answered = ap (λ (d : Option Refusal). outcomeBy s p w o d .answer) g;
-        scratch-left = stop (wiped w) n ∙ ap (λ (d : Option Refusal). outcomeBy s p w o d .scratch) g;
-        output-left = ap (λ (d : Option Refusal). outcomeBy s p w o d .output) g;
+        answered = ap (λ (d : Option Refusal). outcomeBy scratchNeed s p w o d .answer) g;
+        scratch-left = stop (wiped scratchNeed w) n ∙ ap (λ (d : Option Refusal). outcomeBy scratchNeed s p w o d .scratch) g;
+        output-left = ap (λ (d : Option Refusal). outcomeBy scratchNeed s p w o d .output) g;
       }
 
-  module _ (e : none ≡ asked (lent p (length s) (length w) (length o))) where
+  module _ (e : none ≡ asked (lent scratchNeed p (length s) (length w) (length o))) where
     all-later : all ≡ laterRefusal s p
     unfolding questions
-    all-later = asked-on (lent p (length s) (length w) (length o)) (ofStream s ++ (ask (passes (filepassBody s) p) WrongPassword ∷ [])) e
+    all-later = asked-on (lent scratchNeed p (length s) (length w) (length o)) (ofStream s ++ (ask (passes (filepassBody s) p) WrongPassword ∷ [])) e
 
     -- the scratch is wiped at the end, whatever was settled
-    by-outcome : (d : Option Refusal) → ((r : Refusal) → d ≡ some r → 6 ≤ number r) → outcomeBy s p w o d .scratch ≡ wiped w
+    by-outcome : (d : Option Refusal) → ((r : Refusal) → d ≡ some r → 6 ≤ number r) → outcomeBy scratchNeed s p w o d .scratch ≡ wiped scratchNeed w
     by-outcome none f = refl
-    by-outcome (some r) f = left w (wiped w) (lt-leb (number r) 5 (f r refl))
+    by-outcome (some r) f = left w (wiped scratchNeed w) (lt-leb (number r) 5 (f r refl))
 
-    pub settled-all : (a : Answer) (w₁ w₂ o₁ : List ℕ) → Settles s p w o a w₁ o₁ → 2064 ≤ length w₁
-        → w₂ ≡ pick (leb 2064 (length w₁)) (replicate 2064 0 ++ drop 2064 w₁) w₁ → Opens s p w o a w₂ o₁
-    unfolding outcome
-    settled-all a w₁ w₂ o₁ t h g =
+    -- n bytes were wiped, and as many are wanted
+    pub settled-all : (n : ℕ) (a : Answer) (w₁ w₂ o₁ : List ℕ) → Settles s p w o a w₁ o₁ → 64 ≤ length w₁
+        → w₂ ≡ pick (leb n (length w₁)) (replicate n 0 ++ drop n w₁) w₁ → n ≡ scratchNeed → Opens s p w o a w₂ o₁
+    unfolding outcomeWith
+    settled-all n a w₁ w₂ o₁ t h g en =
         record {
           answered = t .answered ∙ rw (← all-later) refl;
-          scratch-left = g ∙ taken (replicate 2064 0 ++ drop 2064 w₁) w₁ (le-leb 2064 (length w₁) h) ∙ ap (λ (l : List ℕ). replicate 2064 0 ++ l) same-rest
-              ∙ sym (ap (λ (d : Option Refusal). outcomeBy s p w o d .scratch) all-later ∙ by-outcome (laterRefusal s p)
+          scratch-left = rw en at g ∙ taken (replicate 64 0 ++ drop 64 w₁) w₁ (le-leb 64 (length w₁) h) ∙ ap (λ (l : List ℕ). replicate 64 0 ++ l) (t .kept)
+              ∙ sym (ap (λ (d : Option Refusal). outcomeBy scratchNeed s p w o d .scratch) all-later ∙ by-outcome (laterRefusal s p)
               (λ r q. later-number s (passes (filepassBody s) p) r q));
           output-left = t .output-left ∙ rw (← all-later) refl;
         }
-      where
-        same-rest : drop 2064 w₁ ≡ drop 2064 w
-        same-rest = sym (drop-drop 2000 64 w₁) ∙ ap (drop 2000) (t .kept) ∙ drop-drop 2000 64 w
 
 -- what the questions of what is lent tell
-pub lent-tells : (p : List ℕ) (stream scratch output : ℕ) → none ≡ asked (lent p stream scratch output)
-    → (stream ≤ 1073741824) × (wellFormed p ≡ true) × (2064 ≤ scratch) × (stream ≤ output)
+pub lent-tells : (p : List ℕ) (stream scratch output : ℕ) → none ≡ asked (lent scratchNeed p stream scratch output)
+    → (stream ≤ 1073741824) × (wellFormed p ≡ true) × (64 ≤ scratch) × (stream ≤ output)
 unfolding lent
 lent-tells p stream scratch output e =
-    let q = lent p stream scratch output in
+    let q = lent scratchNeed p stream scratch output in
     let a : asked (drop 1 q) ≡ none = rest-yes _ (drop 1 q) (sym e) in
     let b : asked (drop 2 q) ≡ none = rest-yes _ (drop 2 q) a in
     let c : asked (drop 3 q) ≡ none = rest-yes _ (drop 3 q) b in
     let d : asked (drop 4 q) ≡ none = rest-yes _ (drop 4 q) c in (
       leb-true stream 1073741824 (first-yes _ (drop 4 q) c),
       first-yes _ (drop 2 q) a,
-      leb-true 2064 scratch (first-yes _ (drop 3 q) b),
+      leb-true 64 scratch (first-yes _ (drop 3 q) b),
       leb-true stream output (first-yes _ [] d),
     )
 
@@ -167,12 +165,12 @@ pub record HasOpened (stream p output : List ℕ) (x : Report) (output₁ : List
 
 pub has-opened : (stream p scratch output : List ℕ) (x : Report) (scratch₁ output₁ : List ℕ) → Opens stream p scratch output (Opened x) scratch₁ output₁
     → HasOpened stream p output x output₁
-unfolding outcome questions
+unfolding outcomeWith questions
 has-opened stream p scratch output x scratch₁ output₁ run =
-    let lending = lent p (length stream) (length scratch) (length output) in
+    let lending = lent scratchNeed p (length stream) (length scratch) (length output) in
     let last = ask (passes (filepassBody stream) p) WrongPassword ∷ [] in
     let all = asked (lending ++ (ofStream stream ++ last)) in
-    let this : Ran stream p scratch output all (Opened x) scratch₁ output₁ =
+    let this : Ran scratchNeed stream p scratch output all (Opened x) scratch₁ output₁ =
     record { answered = run .answered; scratch-left = run .scratch-left; output-left = run .output-left } in
     let o = opening stream p scratch output (Opened x) scratch₁ output₁ all this x refl in
     let passed = none-of-both lending (ofStream stream ++ last) (o .given) in

@@ -13,7 +13,7 @@ use Rattle.sensitive.specs.Utf8.{wellFormed}
 use Rattle.file_params.specs.declared.Refusal.{Refusal}
 use Rattle.file_params.specs.declared.Refusal.the-variants.{WrongPassword}
 use Rattle.file_params.specs.Refusal.{number}
-use Rattle.file_params.specs.Questions.{asked, filepassBody}
+use Rattle.file_params.specs.Questions.{scratchNeed, asked, filepassBody}
 use Rattle.survey.proofs.Told.{ends-clean}
 use Rattle.excel97.specs.declared.Report.{Report}
 use Rattle.excel97.specs.declared.Answer.{Answer}
@@ -25,13 +25,13 @@ use Rattle.excel97.proofs.PlainBytes.{plain-left, length-plain}
 
 -- what the check decides, where no earlier question refuses
 module _ (stream p scratch output : List ℕ) (a : Answer) where
-  by-check : (t : Bool) → passes (filepassBody stream) p ≡ t → a ≡ outcomeBy stream p scratch output (decided none t) .answer → Decided stream p a
+  by-check : (t : Bool) → passes (filepassBody stream) p ≡ t → a ≡ outcomeBy scratchNeed stream p scratch output (decided none t) .answer → Decided stream p a
   unfolding pick
   by-check true e g = record { fails = λ r n h. cc; failed = λ h. (WrongPassword, refl, cc); succeeds = λ told h. e; succeeded = λ h. (report stream, g) }
   by-check false e g = record { fails = λ r n h. e; failed = λ h. (WrongPassword, refl, g); succeeds = λ told h. cc; succeeded = λ h. (report stream, cc) }
 
   by-questions : (c : Option Refusal) → ((r : Refusal) → c ≡ some r → number r ≤ 26)
-      → a ≡ outcomeBy stream p scratch output (decided c (passes (filepassBody stream) p)) .answer
+      → a ≡ outcomeBy scratchNeed stream p scratch output (decided c (passes (filepassBody stream) p)) .answer
       → ((r : Refusal) → a ≡ Refused r → number r ≡ 27) → Decided stream p a
   by-questions none small g f = by-check (passes (filepassBody stream) p) refl g
   by-questions (some r) small g f = let e = f r g in let h = small r refl in absurd (no e h)
@@ -73,7 +73,7 @@ alone stream p scratch output a scratch₁ output₁ short fine run =
     t : Bool
     t = passes (filepassBody stream) p
 
-    this : Ran stream p scratch output (decided c t) a scratch₁ output₁
+    this : Ran scratchNeed stream p scratch output (decided c t) a scratch₁ output₁
     this = ran stream p scratch output a scratch₁ output₁ short fine run
 
     opens : (x : Report) → a ≡ Opened x → Opening stream p scratch output a scratch₁ output₁ (decided c t) x

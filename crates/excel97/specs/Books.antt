@@ -3,7 +3,7 @@
 -- Assumes nothing.
 use Prim.Native.Nat.{ℕ, _+_}
 use mathlib.Core.Bool.{true, false}
-use mathlib.Core.List.{List, [], _∷_}
+use mathlib.Core.List.{List, [], _∷_, _++_}
 use lib.ListN.{length, replicate}
 use Rattle.xor_obfuscation.specs.Xor.{passwordVerifier, xorKey, xorArray}
 use Rattle.binary_office.specs.declared.Version.the-variants.{Pair, NoVersion}
@@ -16,7 +16,7 @@ use Rattle.file_params.specs.Refusal.{number, first, second}
 use Rattle.file_params.specs.declared.Refusal.the-variants.{BiffRecordUnreadable, WorkbookBofMissing, NotEncrypted, FilepassOutOfOrder, FilepassTruncated, FilepassEncryptionType, EncryptionVersionInfoTruncated, UnsupportedEncryptionVersion, WrongPassword}
 use Rattle.excel97.specs.declared.Answer.{Answer}
 use Rattle.excel97.specs.declared.Answer.the-variants.{Opened, Refused}
-use Rattle.excel97.specs.Open.{Outcome, wiped, xorReport, outcome}
+use Rattle.excel97.specs.Open.{Outcome, xorReport, outcome}
 
 -- a stream and a password; Look's verdict; Open's answer with the scratch and the output that it leaves, and the answer in the document's numbers
 pub record ShortBook : Type 0 where
@@ -37,9 +37,13 @@ pub data Case : Type 0 where
   book : ShortBook → Case
   password : ShortPassword → Case
 
--- what is lent beside stream and password: scratch as long as it has to be, and an output of one byte more than the stream, none of their bytes 0
+-- what is lent beside stream and password: a scratch of 70 bytes, and an output of one byte more than the stream, none of their bytes 0
 abbrev pub lentScratch : List ℕ
-lentScratch = replicate 2064 0xAA
+lentScratch = replicate 70 0xAA
+
+-- and what is left of the scratch from question 6 on: "exactly the first 64 end zero" (document 02, T-06)
+abbrev pub leftScratch : List ℕ
+leftScratch = replicate 64 0 ++ replicate 6 0xAA
 
 abbrev pub lentOutput : (stream : List ℕ) → List ℕ
 lentOutput stream = replicate (length stream + 1) 0xAA
@@ -86,7 +90,7 @@ refused stream p verdict r n a b =
       stream = stream;
       password = p;
       verdict = verdict;
-      left = record { answer = Refused r; scratch = wiped lentScratch; output = lentOutput stream };
+      left = record { answer = Refused r; scratch = leftScratch; output = lentOutput stream };
       numbers = n ∷ a ∷ b ∷ [];
     })
 
@@ -122,7 +126,7 @@ cases =
       verdict = lockedXor;
       left = record {
         answer = Opened (xorReport 3 20 2 0);
-        scratch = wiped lentScratch;
+        scratch = leftScratch;
         output = 0x09 ∷ 0x08 ∷ 0x00 ∷ 0x00 ∷ 0x00 ∷ 0x00 ∷ 0x06 ∷ 0x00 ∷ 0x00 ∷ 0x00 ∷ 0x00 ∷ 0x00 ∷ 0x00 ∷ 0x00 ∷ 0x42 ∷ 0x00 ∷ 0x02 ∷ 0x00 ∷ 0xBE ∷ 0x19 ∷ 0xAA ∷ [];
       };
       numbers = [];

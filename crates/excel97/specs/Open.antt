@@ -16,7 +16,7 @@ use Rattle.xor_obfuscation.specs.Xor.{passwordVerifier, xorKey, xorArray, decip
 use Rattle.binary_office.specs.Walk.{BiffRecord, walk, clearLen}
 use Rattle.file_params.specs.declared.Refusal.{Refusal}
 use Rattle.file_params.specs.Refusal.{number}
-use Rattle.file_params.specs.Questions.{asked, questions, filepass, filepassBody, typeOf, structureOf, le16}
+use Rattle.file_params.specs.Questions.{scratchNeed, asked, questions, filepass, filepassBody, typeOf, structureOf, le16}
 use Rattle.block_keys.specs.declared.Kind.{Kind}
 use Rattle.block_keys.specs.declared.Kind.the-variants as kind
 use Rattle.block_keys.specs.BlockKeys.{scheduleOf, blockKey, keystreamAt, verified}
@@ -138,22 +138,29 @@ pub record Outcome : Type 0 where
   pub scratch : List ℕ
   pub output : List ℕ
 
--- from question 6 on the first 2,064 scratch bytes end zero, and the rest is untouched
-abbrev pub wiped : List ℕ → List ℕ
-wiped scratch = replicate 2064 0 ++ drop 2064 scratch
+-- from question 6 on as many scratch bytes as are wanted end zero, from the first on, and the rest is untouched
+abbrev pub wiped : (need : ℕ) → List ℕ → List ℕ
+wiped need scratch = replicate need 0 ++ drop need scratch
 
-abbrev pub outcomeBy : (stream password scratch output : List ℕ) → Option Refusal → Outcome
-outcomeBy stream password scratch output none =
-    record { answer = Opened (report stream); scratch = wiped scratch; output = plain stream password ++ drop (length stream) output }
-outcomeBy stream password scratch output (some r) =
-    record { answer = Refused r; scratch = pick (leb (number r) 5) scratch (wiped scratch); output = output }
+abbrev pub outcomeBy : (need : ℕ) → (stream password scratch output : List ℕ) → Option Refusal → Outcome
+outcomeBy need stream password scratch output none =
+    record { answer = Opened (report stream); scratch = wiped need scratch; output = plain stream password ++ drop (length stream) output }
+outcomeBy need stream password scratch output (some r) =
+    record { answer = Refused r; scratch = pick (leb (number r) 5) scratch (wiped need scratch); output = output }
 
-unfoldable pub outcome : (stream password scratch output : List ℕ) → Outcome
-outcome stream password scratch output =
-    outcomeBy stream password scratch output (asked (questions stream password scratch output (passes (filepassBody stream) password)))
+-- where a scratch of `need` bytes is wanted
+unfoldable pub outcomeWith : (need : ℕ) → (stream password scratch output : List ℕ) → Outcome
+outcomeWith need stream password scratch output =
+    outcomeBy need stream password scratch output (asked (questions need stream password scratch output (passes (filepassBody stream) password)))
 
--- what `open` promises
-pub record Opens (stream password scratch output : List ℕ) (answer : Answer) (scratch′ output′ : List ℕ) : Type 0 where
-  pub answered : answer ≡ outcome stream password scratch output .answer
-  pub scratch-left : scratch′ ≡ outcome stream password scratch output .scratch
-  pub output-left : output′ ≡ outcome stream password scratch output .output
+pub record OpensWith (need : ℕ) (stream password scratch output : List ℕ) (answer : Answer) (scratch′ output′ : List ℕ) : Type 0 where
+  pub answered : answer ≡ outcomeWith need stream password scratch output .answer
+  pub scratch-left : scratch′ ≡ outcomeWith need stream password scratch output .scratch
+  pub output-left : output′ ≡ outcomeWith need stream password scratch output .output
+
+-- the outcome of `open`, and what it promises
+abbrev pub outcome : (stream password scratch output : List ℕ) → Outcome
+outcome = outcomeWith scratchNeed
+
+abbrev pub Opens : (stream password scratch output : List ℕ) → Answer → (scratch′ output′ : List ℕ) → Type 0
+Opens = OpensWith scratchNeed

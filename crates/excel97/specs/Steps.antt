@@ -11,7 +11,7 @@ use Rattle.binary_office.specs.declared.WalkEnd.the-variants as end
 use Rattle.binary_office.specs.Walk.{BiffRecord, walk}
 use Rattle.file_params.specs.declared.Refusal.{Refusal}
 use Rattle.file_params.specs.declared.Refusal.the-variants.{WrongPassword}
-use Rattle.file_params.specs.Questions.{ask, asked, ofStream, filepass, filepassBody}
+use Rattle.file_params.specs.Questions.{scratchNeed, ask, asked, ofStream, filepass, filepassBody}
 use Rattle.survey.specs.declared.Found.the-variants as found
 use Rattle.survey.specs.Steps.{foundOf}
 use Rattle.excel97.specs.declared.Answer.{Answer}
@@ -45,7 +45,7 @@ laterRefusal stream password = asked (ofStream stream ++ (ask (passes (filepassB
 
 -- what is settled once questions 1 to 5 are passed; of the scratch, only the first 64 bytes change
 pub record Settles (stream password scratch output : List ℕ) (answer : Answer) (scratch′ output′ : List ℕ) : Type 0 where
-  pub answered : answer ≡ outcomeBy stream password scratch output (laterRefusal stream password) .answer
+  pub answered : answer ≡ outcomeBy scratchNeed stream password scratch output (laterRefusal stream password) .answer
   pub same : length scratch′ ≡ length scratch
   pub kept : drop 64 scratch′ ≡ drop 64 scratch
-  pub output-left : output′ ≡ outcomeBy stream password scratch output (laterRefusal stream password) .output
+  pub output-left : output′ ≡ outcomeBy scratchNeed stream password scratch output (laterRefusal stream password) .output

@@ -15,7 +15,7 @@ ghost use Rattle.sensitive.specs.Ansi.{ansi};
 ghost use Rattle.binary_office.specs.declared.WalkEnd.the-variants.{Clean};
 ghost use Rattle.binary_office.specs.Walk.{BiffRecord, walk};
 ghost use Rattle.file_params.specs.declared.Refusal.the-variants.{WrongPassword};
-ghost use Rattle.file_params.specs.Questions.{asked, lent, ofStream, le16, filepassBody, typeOf, structureOf};
+ghost use Rattle.file_params.specs.Questions.{scratchNeed, asked, lent, ofStream, le16, filepassBody, typeOf, structureOf};
 ghost use Rattle.survey.specs.Checked.{checkedOf};
 ghost use Rattle.survey.specs.Survey.{blockKeys, bookOf};
 ghost use Rattle.block_keys.specs.BlockKeys.{blockKey, keystreamAt, startedBlocks};
@@ -50,7 +50,7 @@ pub enum Answer {
 
 // Asks questions 1 to 5.
 fn check_lent(password: &[u8], stream: usize, scratch: usize, output: usize) -> survey::Checked
-    ensures { λ r. ⌜ r ≡ checkedOf (asked (lent (now (password .entry)) stream scratch output)) ⌝ }
+    ensures { λ r. ⌜ r ≡ checkedOf (asked (lent scratchNeed (now (password .entry)) stream scratch output)) ⌝ }
 {
     if limits::PASSWORD_MAX_LEN < password.len() {
         return survey::Checked::Refused(file_params::Refusal::PasswordTooLong);
@@ -303,7 +303,7 @@ fn open_locked(
     scratch: &mut [u8],
     output: &mut [u8],
 ) -> Answer
-    requires { ⌜ (none ≡ asked (ofStream (now stream))) × (surveyed ≡ bookOf (now stream)) × (wellFormed (now password) ≡ true) × (2064 ≤ length (now scratch)) × (length (now stream) ≤ length (now output)) ⌝ }
+    requires { ⌜ (none ≡ asked (ofStream (now stream))) × (surveyed ≡ bookOf (now stream)) × (wellFormed (now password) ≡ true) × (64 ≤ length (now scratch)) × (length (now stream) ≤ length (now output)) ⌝ }
     ensures { λ r. ⌜ Settles (now (stream .entry)) (now (password .entry)) (now (scratch .entry)) (now (output .entry)) r (now (scratch .exit)) (now (output .exit)) ⌝ }
 {
     let at = surveyed.at;
@@ -343,7 +343,7 @@ fn open_locked(
 
 // Asks questions 6 to 27, and opens the stream where they are passed.
 fn open_stream(stream: &[u8], password: &[u8], scratch: &mut [u8], output: &mut [u8]) -> Answer
-    requires { ⌜ (length (now stream) ≤ 1073741824) × (wellFormed (now password) ≡ true) × (2064 ≤ length (now scratch)) × (length (now stream) ≤ length (now output)) ⌝ }
+    requires { ⌜ (length (now stream) ≤ 1073741824) × (wellFormed (now password) ≡ true) × (64 ≤ length (now scratch)) × (length (now stream) ≤ length (now output)) ⌝ }
     ensures { λ r. ⌜ Settles (now (stream .entry)) (now (password .entry)) (now (scratch .entry)) (now (output .entry)) r (now (scratch .exit)) (now (output .exit)) ⌝ }
 {
     match survey::survey(stream) {

@@ -41,12 +41,12 @@ never-falls m (n ∷ ns) e (suc i) zero h k = omega arith
 never-falls m (n ∷ ns) e (suc i) (suc j) h k = never-falls n ns (both (leb m n) (risingFrom n ns) e .1) i j (omega arith) (omega arith)
 
 -- the choices of `questions`: whether the type is 1, and which family the version names
-as-joined : (stream password scratch output : List ℕ) (passes : Bool)
+as-joined : (need : ℕ) (stream password scratch output : List ℕ) (passes : Bool)
     → let body = filepassBody stream in
     let structure = structureOf body in
-    numbers (questions stream password scratch output passes) ≡ expected (eqb (typeOf body) 1) (isOffice97 structure) (isCryptoApi structure)
+    numbers (questions need stream password scratch output passes) ≡ expected (eqb (typeOf body) 1) (isOffice97 structure) (isCryptoApi structure)
 unfolding questions ofStream lent book inOrder locked lock encryptionType only pick rc4 version office97 cryptoApi
-as-joined stream password scratch output passes = go (eqb (typeOf body) 1) (isOffice97 structure) (isCryptoApi structure)
+as-joined need stream password scratch output passes = go (eqb (typeOf body) 1) (isOffice97 structure) (isCryptoApi structure)
   where
     body : List ℕ
     body = filepassBody stream
@@ -59,7 +59,7 @@ as-joined stream password scratch output passes = go (eqb (typeOf body) 1) (isOf
 
     go : (t u v : Bool)
         → numbers
-        (lent password (length stream) (length scratch) (length output)
+        (lent need password (length stream) (length scratch) (length output)
         ++ (book stream ++ ((encryptionType body ++ only t (families u v)) ++ (ask passes WrongPassword ∷ []))))
         ≡ expected t u v
     go false u v = refl
@@ -72,7 +72,7 @@ pub numbered : Numbered
 unfolding lent book inOrder locked encryptionType version office97 cryptoApi
 numbered =
     record {
-      of-lent = λ password stream scratch output. refl;
+      of-lent = λ need password stream scratch output. refl;
       of-book = λ stream. refl;
       of-type = λ body. refl;
       of-version = λ structure. refl;
@@ -92,7 +92,7 @@ rising-expected true false false = refl
 pub rising : Rising
 rising =
     record {
-      rises = λ stream password scratch output passes.
-          never-falls 0 (numbers (questions stream password scratch output passes))
-          (ap (risingFrom 0) (as-joined stream password scratch output passes) ∙ rising-expected _ _ _);
+      rises = λ need stream password scratch output passes.
+          never-falls 0 (numbers (questions need stream password scratch output passes))
+          (ap (risingFrom 0) (as-joined need stream password scratch output passes) ∙ rising-expected _ _ _);
     }

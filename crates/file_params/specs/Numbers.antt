@@ -24,19 +24,19 @@ expected type-1 is-1-1 is-cryptoApi =
 
 -- the groups, in the order in which `questions` joins them, and all of them as it joins them
 pub record Numbered : Type 0 where
-  pub of-lent : (password : List ℕ) (stream scratch output : ℕ) → numbers (lent password stream scratch output) ≡ 1 ∷ 2 ∷ 3 ∷ 4 ∷ 5 ∷ []
+  pub of-lent : (need : ℕ) (password : List ℕ) (stream scratch output : ℕ) → numbers (lent need password stream scratch output) ≡ 1 ∷ 2 ∷ 3 ∷ 4 ∷ 5 ∷ []
   pub of-book : (stream : List ℕ) → numbers (book stream) ≡ 6 ∷ 7 ∷ 8 ∷ 9 ∷ []
   pub of-type : (body : List ℕ) → numbers (encryptionType body) ≡ 10 ∷ 10 ∷ 11 ∷ []
   pub of-version : (structure : List ℕ) → numbers (version structure) ≡ 12 ∷ 13 ∷ []
   pub of-office97 : (structure : List ℕ) → numbers (office97 structure) ≡ 14 ∷ []
   pub of-cryptoApi : (structure : List ℕ) → numbers (cryptoApi structure) ≡ 15 ∷ 16 ∷ 17 ∷ 18 ∷ 19 ∷ 20 ∷ 21 ∷ 22 ∷ 23 ∷ 24 ∷ 25 ∷ 26 ∷ []
-  pub of-all : (stream password scratch output : List ℕ) (passes : Bool)
+  pub of-all : (need : ℕ) (stream password scratch output : List ℕ) (passes : Bool)
       → let body = filepassBody stream in
       let structure = structureOf body in
-      numbers (questions stream password scratch output passes) ≡ expected (eqb (typeOf body) 1) (isOffice97 structure) (isCryptoApi structure)
+      numbers (questions need stream password scratch output passes) ≡ expected (eqb (typeOf body) 1) (isOffice97 structure) (isCryptoApi structure)
 
 -- the numbers of all questions never fall, whatever is lent
 pub record Rising : Type 0 where
-  pub rises : (stream password scratch output : List ℕ) (passes : Bool) (i j : ℕ) → i ≤ j
-      → let ns = numbers (questions stream password scratch output passes) in
+  pub rises : (need : ℕ) (stream password scratch output : List ℕ) (passes : Bool) (i j : ℕ) → i ≤ j
+      → let ns = numbers (questions need stream password scratch output passes) in
       j < length ns → getD ns i 0 ≤ getD ns j 0

@@ -38,12 +38,16 @@ only t qs = pick t qs []
 abbrev pub streamFits : (stream : ℕ) → Question
 streamFits stream = ask (leb stream 1073741824) StreamTooLarge  -- 4
 
--- of what is lent: the password, and the lengths of the stream, the scratch and the output
-unfoldable pub lent : (password : List ℕ) → (stream scratch output : ℕ) → List Question
-lent password stream scratch output =
+-- how much scratch question 3 wants (document 02, T-06: "at least 64")
+abbrev pub scratchNeed : ℕ
+scratchNeed = 64
+
+-- of what is lent: the password, and the lengths of the stream, the scratch and the output, where a scratch of `need` bytes is wanted
+unfoldable pub lent : (need : ℕ) → (password : List ℕ) → (stream scratch output : ℕ) → List Question
+lent need password stream scratch output =
     ask (leb (length password) 1024) PasswordTooLong  -- 1
     ∷ ask (wellFormed password) PasswordMalformed  -- 2
-    ∷ ask (leb 2064 scratch) ScratchShort  -- 3
+    ∷ ask (leb need scratch) ScratchShort  -- 3
     ∷ streamFits stream  -- 4
     ∷ ask (leb stream output) OutputShort  -- 5
     ∷ []
@@ -209,8 +213,8 @@ ofStream stream =
     ++ lock (filepassBody stream)  -- 10 to 26
 
 -- all of them; `passes` is whether the password passes the check of the lock
-unfoldable pub questions : (stream password scratch output : List ℕ) → (passes : Bool) → List Question
-questions stream password scratch output passes =
-    lent password (length stream) (length scratch) (length output)  -- 1 to 5
+unfoldable pub questions : (need : ℕ) → (stream password scratch output : List ℕ) → (passes : Bool) → List Question
+questions need stream password scratch output passes =
+    lent need password (length stream) (length scratch) (length output)  -- 1 to 5
     ++ (ofStream stream  -- 6 to 26
     ++ (ask passes WrongPassword ∷ []))  -- 27

@@ -16,7 +16,7 @@ use Rattle.binary_office.specs.Walk.{zeroBytes, walk, remainder}
 use Rattle.binary_office.proofs.Remainder.{padded-length}
 use Rattle.file_params.specs.declared.Refusal.{Refusal}
 use Rattle.file_params.specs.Refusal.{number}
-use Rattle.file_params.specs.Questions.{asked, only, lent, inOrder, locked, book, encryptionType, version, office97, cryptoApi, rc4, lock, ofStream, streamFits, filepassBody, structureOf, typeOf, isOffice97, isCryptoApi}
+use Rattle.file_params.specs.Questions.{scratchNeed, asked, only, lent, inOrder, locked, book, encryptionType, version, office97, cryptoApi, rc4, lock, ofStream, streamFits, filepassBody, structureOf, typeOf, isOffice97, isCryptoApi}
 use Rattle.file_params.specs.Numbers.{numbers}
 use Rattle.file_params.proofs.Laws.{from-either}
 use Rattle.file_params.proofs.Tables.{given-passes, stream-number}
@@ -93,15 +93,15 @@ alone-number s r e n =
     omega arith
 
 -- where enough is lent, the questions before 27 are those of the stream alone
-module _ (s scratch output : List ℕ) (room : 2064 ≤ length scratch) (fits : length s ≤ length output) where
+module _ (s scratch output : List ℕ) (room : 64 ≤ length scratch) (fits : length s ≤ length output) where
   lent-enough : asked (earlier s scratch output) ≡ asked (alone s)
   unfolding asked lent alone pick
   lent-enough =
-      rw (le-leb 2064 (length scratch) room, le-leb (length s) (length output) fits, empty-fine)
+      rw (le-leb 64 (length scratch) room, le-leb (length s) (length output) fits, empty-fine)
 
   module _ (password : List ℕ) (a : excel97.Answer) (scratch′ output′ : List ℕ) (short : length password ≤ 1024) (fine : wellFormed password ≡ true)
       (run : Opens s password scratch output a scratch′ output′) where
-    this : Ran s password scratch output (decided (asked (alone s)) (passes (filepassBody s) password)) a scratch′ output′
+    this : Ran scratchNeed s password scratch output (decided (asked (alone s)) (passes (filepassBody s) password)) a scratch′ output′
     this = rw lent-enough at (ran s password scratch output a scratch′ output′ short fine run)
 
     same-refusals : SameRefusals (forecast s) a

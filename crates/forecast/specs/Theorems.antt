@@ -148,7 +148,7 @@ pub record Forecasts : Type 0 where
       → (c : Counts) × (forecast stream ≡ Told c) × SameCounts c x
   -- of any run that is lent enough and given a well-formed password of at most 1,024 bytes
   pub refused : (stream password scratch output : List ℕ) (a : excel97.Answer) (scratch′ output′ : List ℕ)
-      → length password ≤ 1024 → wellFormed password ≡ true → 2064 ≤ length scratch → length stream ≤ length output
+      → length password ≤ 1024 → wellFormed password ≡ true → 64 ≤ length scratch → length stream ≤ length output
       → Opens stream password scratch output a scratch′ output′ → SameRefusals (forecast stream) a
   -- of a book that its records fill, up to 1 GiB with the padding
   pub of-padded : (stream : List ℕ) (n : ℕ) → remainder stream ≡ [] → n ≤ 3 → length stream + n ≤ 1073741824

@@ -1,7 +1,7 @@
 // The bounds of the Rust source's limits.rs that the Excel stream part uses, under its names; its range
 // RC4_KEY_BITS is two numbers here, and RC4_ENCRYPTION_HEADER_SIZE_MIN is rc4_cryptoapi.rs's HEADER_FIXED_LEN. Two more
-// are document 01's own: PASSWORD_MAX_LEN and SCRATCH_LEN. The tests of a header's size and of a key size stand beside
-// their bounds, so that a wrong bound is refused here.
+// are of the customer's documents: PASSWORD_MAX_LEN (01) and SCRATCH_LEN (02, T-06). The tests of a header's size and of
+// a key size stand beside their bounds, so that a wrong bound is refused here.
 ghost use mathlib.Core.Path.{_≡_};
 ghost use mathlib.Core.Bool.{_&&_, _||_};
 ghost use Prim.Native.Nat.{_%_};
@@ -32,7 +32,7 @@ pub const XOR_PASSWORD_MAX_LEN: usize = 15;
 // The longest password in bytes, and the scratch that opening asks for.
 pub const PASSWORD_MAX_LEN: usize = 1024;
 
-pub const SCRATCH_LEN: usize = 2064;
+pub const SCRATCH_LEN: usize = 64;
 
 // An encryption header's size that is taken: document 01's question 16.
 pub fn size_fits(size: u32) -> bool

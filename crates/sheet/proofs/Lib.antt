@@ -1,3 +1,4 @@
 pub mod Forecasts
 pub mod KeySizes
 pub mod Numbers
+pub mod Scratch

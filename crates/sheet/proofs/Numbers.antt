@@ -2,6 +2,7 @@
 -- Assumes nothing.
 use mathlib.Core.Path.{_≡_, refl}
 use mathlib.Core.Bool.{true}
+use Prim.Native.Nat.{_≤_}
 use native.Mathlib.Omega.{arith}
 use borrow.Author.Tests.{leb-true}
 use lib.Dec.{leb}
@@ -40,5 +41,8 @@ positive refusal.WrongPassword = refl
 positive (refusal.BoundSheetStart offset) = refl
 positive (refusal.BofEofUnpaired offset) = refl
 
+pub at-least-one : (r : Refusal) → 1 ≤ number r
+at-least-one r = leb-true 1 (number r) (positive r)
+
 pub not-refused : {X : Type 0} (r : Refusal) → number r ≡ 0 → X
-not-refused r e = let h = leb-true 1 (number r) (positive r) in absurd (omega arith)
+not-refused r e = let h = at-least-one r in absurd (omega arith)

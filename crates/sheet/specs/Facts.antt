@@ -17,12 +17,13 @@ use Rattle.binary_office.specs.declared.Step.the-variants.{Record, Fault, End}
 use Rattle.binary_office.specs.Walk.{clearLen}
 use Rattle.file_params.specs.declared.Refusal.{Refusal}
 use Rattle.file_params.specs.Refusal.{number, first, second}
+use Rattle.file_params.specs.Questions.{scratchNeed}
 use Rattle.excel97.specs.declared.Lock.{Lock}
 use Rattle.excel97.specs.declared.Lock.the-variants.{Xor, Office97, CryptoApi}
 use Rattle.excel97.specs.declared.Report.{Report}
 use Rattle.excel97.specs.declared.Answer.{Answer}
 use Rattle.excel97.specs.declared.Answer.the-variants.{Opened, Refused}
-use Rattle.excel97.specs.Open.{Outcome, outcome}
+use Rattle.excel97.specs.Open.{outcomeWith}
 use Rattle.directory.specs.declared.Start.{Start}
 use Rattle.directory.specs.declared.Start.the-variants.{At, Nothing}
 use Rattle.directory.specs.declared.Sheets.{Sheets}
@@ -120,9 +121,13 @@ openFacts (Opened r) =
     r .records ∷ lockNumber (r .lock) ∷ r .«key_bits» ∷ flag (r .«summary_sealed») ∷ r .«output_bytes» ∷ r .«enciphered_body_bytes» ∷ r .«block_keys» ∷ 0 ∷ []
 openFacts (Refused r) = refusalFacts r
 
+-- what opening answers and leaves, where a scratch of `need` bytes is wanted
+pub record OpensInCWith (need : ℕ) (stream password scratch output : List ℕ) (number : ℕ) (scratch′ output′ facts′ : List ℕ) : Type 0 where
+  pub answered : number ≡ openNumber (outcomeWith need stream password scratch output .answer)
+  pub told : facts′ ≡ openFacts (outcomeWith need stream password scratch output .answer)
+  pub scratch-left : scratch′ ≡ outcomeWith need stream password scratch output .scratch
+  pub output-left : output′ ≡ outcomeWith need stream password scratch output .output
+
 -- what `sheet_open` answers and leaves
-pub record OpensInC (stream password scratch output : List ℕ) (number : ℕ) (scratch′ output′ facts′ : List ℕ) : Type 0 where
-  pub answered : number ≡ openNumber (outcome stream password scratch output .answer)
-  pub told : facts′ ≡ openFacts (outcome stream password scratch output .answer)
-  pub scratch-left : scratch′ ≡ outcome stream password scratch output .scratch
-  pub output-left : output′ ≡ outcome stream password scratch output .output
+abbrev pub OpensInC : (stream password scratch output : List ℕ) → (number : ℕ) → (scratch′ output′ facts′ : List ℕ) → Type 0
+OpensInC = OpensInCWith scratchNeed

@@ -27,7 +27,7 @@ pub record ForecastsInC (stream password scratch output : List ℕ) (n answer : 
   -- facts[2], four for each of facts[1] and the padding never pass the stream's length
   pub within : n ≡ 0 → getD foretold 2 0 + 4 * getD foretold 1 0 + length (remainder stream) ≤ length stream
   pub opened : answer ≡ 0 → (n ≡ 0) × SameFour foretold told
-  pub refused : length password ≤ 1024 → wellFormed password ≡ true → 2064 ≤ length scratch → length stream ≤ length output → SameRefusal n answer foretold told
+  pub refused : length password ≤ 1024 → wellFormed password ≡ true → 64 ≤ length scratch → length stream ≤ length output → SameRefusal n answer foretold told
 
 abbrev pub OfAnyRunInC : Type 0
 OfAnyRunInC =

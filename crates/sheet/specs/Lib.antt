@@ -1,3 +1,4 @@
 pub mod Facts
 pub mod Forecasts
 pub mod KeySizes
+pub mod Scratch

@@ -1,8 +1,8 @@
 -- `excel97::open` meets its contract: questions 1 to 5 refuse and touch nothing; past them the scratch is wiped whatever is settled.
 -- Assumes nothing.
-use mathlib.Core.Path.{_≡_, sym, _∙_}
+use mathlib.Core.Path.{refl, sym, _∙_}
 use lib.ListN.{length}
-use Rattle.file_params.specs.Questions.{asked, lent}
+use Rattle.file_params.specs.Questions.{scratchNeed, asked, lent}
 use Rattle.survey.proofs.Groups.{checked-refused, checked-fine}
 use borrow.Author.Needs.{needs}
 use Rattle.excel97.proofs.Settled.{lent-tells, refused-lent, settled-all}
@@ -16,7 +16,7 @@ open-stream-requires c κs =
     let start = at-check-lent .before .before .before .before .before in
     let args = start .args in
     lent-tells (args .password .now) (length (args .stream .now)) (length (args .scratch .now)) (length (args .output .now))
-    (checked-fine (asked (lent (args .password .now) (length (args .stream .now)) (length (args .scratch .now)) (length (args .output .now))))
+    (checked-fine (asked (lent scratchNeed (args .password .now) (length (args .stream .now)) (length (args .scratch .now)) (length (args .output .now))))
     (sym (at-check-lent .check-lent .ensures) ∙ at-enum-told .enum-told .given .1))
 
 returns : tie.Need-returns
@@ -25,7 +25,7 @@ returns c =
     let start = at-check-lent .before .before .before .before .before in
     let args = start .args in
     refused-lent (args .stream .now) (args .password .now) (args .scratch .now) (args .output .now) _
-    (checked-refused (asked (lent (args .password .now) (length (args .stream .now)) (length (args .scratch .now)) (length (args .output .now)))) _
+    (checked-refused (asked (lent scratchNeed (args .password .now) (length (args .stream .now)) (length (args .scratch .now)) (length (args .output .now)))) _
     (sym (at-check-lent .check-lent .ensures) ∙ c .before .refusal .given .1))
 
 returns-2 : tie.Need-returns-2
@@ -36,11 +36,11 @@ returns-2 c =
     let at-check-lent = at-enum-told .before .before in
     let start = at-check-lent .before .before .before .before .before in
     let args = start .args in
-    let e = checked-fine (asked (lent (args .password .now) (length (args .stream .now)) (length (args .scratch .now)) (length (args .output .now))))
+    let e = checked-fine (asked (lent scratchNeed (args .password .now) (length (args .stream .now)) (length (args .scratch .now)) (length (args .output .now))))
     (sym (at-check-lent .check-lent .ensures) ∙ at-enum-told .enum-told .given .1) in
     let t = lent-tells (args .password .now) (length (args .stream .now)) (length (args .scratch .now)) (length (args .output .now)) e in
-    settled-all (args .stream .now) (args .password .now) (args .scratch .now) (args .output .now) e _ _ _ _ (at-open-stream .open-stream .ensures)
-    (rw (at-open-stream .open-stream .ensures .same) (t .2)) (at-wipe .wipe .ensures .1)
+    settled-all (args .stream .now) (args .password .now) (args .scratch .now) (args .output .now) e _ _ _ _ _ (at-open-stream .open-stream .ensures)
+    (rw (at-open-stream .open-stream .ensures .same) (t .2)) (at-wipe .wipe .ensures .1) refl
 
 pub open-spec : {M : Type 1} → statement M
 open-spec =

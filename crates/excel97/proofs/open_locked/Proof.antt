@@ -33,10 +33,7 @@ unlock-rc4-requires c κs =
     let start = at-scheme .before .before .before .before .before .before in
     let s = start .args .stream .now in
     let x = rc4-found s (start .args .surveyed) (start .pre .1) (lock-passed s (start .pre .0)) _ (at-scheme .scheme .given .1) in
-    (fit start, x .0, two-there (filepassBody s) (lock-passed s (start .pre .0)), x .1, start .pre .2, more _ (start .pre .3))
-  where
-    more : (n : ℕ) → 2064 ≤ n → 64 ≤ n
-    more n h = omega arith
+    (fit start, x .0, two-there (filepassBody s) (lock-passed s (start .pre .0)), x .1, start .pre .2, start .pre .3)
 
 returns : tie.Need-returns
 returns c =
@@ -50,7 +47,7 @@ returns c =
     (c .answer-of .ensures) refl refl
 
 -- the scratch after the first 64 bytes were used
-same-size : (w : List ℕ) → 2064 ≤ length w → length (replicate 64 0 ++ drop 64 w) ≡ length w
+same-size : (w : List ℕ) → 64 ≤ length w → length (replicate 64 0 ++ drop 64 w) ≡ length w
 same-size w h = length-append (replicate 64 0) (drop 64 w) ∙ simp (length-replicate, length-drop) (omega arith)
 
 returns-2 : tie.Need-returns-2
