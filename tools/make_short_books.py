@@ -4,9 +4,10 @@
 Usage, at the root of the project: tools/make_short_books.py. Needs OpenSSL's libcrypto. The locked streams are made from plain ones by books.py, so an
 opened stream's bytes are those it was made from, and the counts that Open reports are those of sealing it (how many keys books.py derived, how many bytes
 it enciphered); padding is added behind both streams once they are made, and is counted by document 02's words (T-05); each refusal is stated here beside its
-case, from document 01's list of questions; the verdict of Look is computed here, from document 01's words and document 02's (T-03), and so is whether a
-stream and that of the case before have the same lock. The forecast of a stream that is refused by 4 or 6 to 26 is that refusal; else it is computed here from
-the layout of the stream, by document 02's words (T-04, T-05).
+case, from document 01's list of questions, with the scratch that document 02 asks for (T-06); what is left of the scratch is by document 02's words too: the
+first 64 bytes zero from question 6 on, all others as they were lent. The verdict of Look is computed here, from document 01's words and document 02's (T-03),
+and so is whether a stream and that of the case before have the same lock. The forecast of a stream that is refused by 4 or 6 to 26 is that refusal; else it is
+computed here from the layout of the stream, by document 02's words (T-04, T-05).
 
 In the data a case is five parts, each behind its length of four bytes, the lower first: its name, the password, the stream, and, as parts of no bytes
 whose length alone counts, the scratch and the output. The program lends bytes (offset mod 251) + 1, which are never zero.
@@ -20,7 +21,9 @@ from books import BOF, BOUND_SHEET, EOF, FILEPASS, SEVEN, CryptoApi, Office97, X
 B = record(BOF)
 XOR = Xor()
 NONE = (0, 0, 0, 0, 0)
+SCRATCH = 64  # the least that is enough, and how much of it ends zero
 cases, lines, before = [], [], None
+firsts = {}  # of each number that Open answers, the first case: stream, facts and password
 
 
 def look(stream):
@@ -67,14 +70,15 @@ def counts(stream):
     return len(stream), records, enciphered, 0 if kind == 0 else 1 + len(range(0, len(stream), 1024))
 
 
-def case(name, stream, password, number, facts=(), plain=None, scratch=2070, more=3, output=None, foretold=None):
+def case(name, stream, password, number, facts=(), plain=None, scratch=SCRATCH + 6, more=3, output=None, foretold=None):
     """One case: `number` and `facts` are what Open answers; `plain` the stream it leaves, of which None says that the output is untouched. `foretold` is the
     forecast's number and facts, where it is refused and Open is not asked that far."""
     global before
     password = password if isinstance(password, bytes) else password.encode()
     output = len(stream) + more if output is None else output
     cases.append(b"".join(struct.pack("<I", len(part)) + part for part in (name.encode(), password, stream)) + struct.pack("<II", scratch, output))
-    zeros = 2064 if number == 0 or number >= 6 else 0
+    firsts.setdefault(number, (stream, facts, password))
+    zeros = SCRATCH if number == 0 or number >= 6 else 0
     seen = verdict, told = look(stream)
     same, before = verdict == 2 and seen == before, seen
     if foretold is None:
@@ -163,11 +167,40 @@ for major in range(6):
 OLD = Office97().filepass("A")
 refused("1.1, bytes 30 to 33 zero", B + record(FILEPASS, OLD[:30] + bytes(4) + OLD[34:]), 27)
 
-# 1: the password's length, under each lock
-for name, lock in ("1.1", Office97()), ("CryptoAPI", CryptoApi()):
-    for text in "p" * 1024, "é" * 512, "€" * 341 + "p", "\U0001d11e" * 256:
-        opened(f"{name}, a password of 1024 bytes, {len(text)} characters", lock, text, SMALL)
+
+def characters(count, first=0x21, room=94):
+    """So many characters, all from `first` on and below `first + room`: of one byte each where none is named. In UTF-16LE no two of its blocks are equal."""
+    made = "".join(chr(first + 1009 * k % room) for k in range(count))
+    data = made.encode("utf-16-le")
+    for start in 0, 48:
+        blocks = [data[at:at + 64] for at in range(start, len(data), 64)]
+        assert len(set(blocks)) == len(blocks)
+    return made
+
+
+def changed(password):
+    """The same but for the last character, which has as many bytes."""
+    return password[:-1] + chr(ord(password[-1]) ^ 1)
+
+
+# 1: the password's length, under each lock. In UTF-16LE the longest have up to 2,048 bytes, which a scratch of 64 can't hold at once
+LONGEST = characters(1024), characters(512, 0x80, 0x780), characters(341, 0x800, 0xD000) + "p", characters(256, 0x10000, 0x100000)
+assert [len(longest.encode("utf-16-le")) for longest in LONGEST] == [2048, 1024, 684, 1024]
+assert all(len(longest.encode()) == len(changed(longest).encode()) == 1024 for longest in LONGEST)
+SCRATCHES = 64, 65, 2064, 2070
+for name, lock in ("1.1", Office97()), ("CryptoAPI", CryptoApi(name=b"")):
+    for longest in LONGEST:
+        for scratch in SCRATCHES:
+            opened(f"{name}, 1024 bytes in {len(longest)} characters, a scratch of {scratch}", lock, longest, SMALL, scratch=scratch)
+        refused(f"{name}, 1024 bytes, the last of {len(longest)} characters changed", small(lock, longest), 27, password=changed(longest), scratch=64)
     refused(f"{name}, a password of 1025 bytes", small(lock, "p" * 1025), 1, password="p" * 1025)
+# with 40 bits the text's digest is the same, and under XOR no such text passes: there each text has one scratch
+FORTY_BITS = CryptoApi(40, name=b"")
+for longest, scratch in zip(LONGEST, SCRATCHES):
+    opened(f"CryptoAPI 40, 1024 bytes in {len(longest)} characters, a scratch of {scratch}", FORTY_BITS, longest, SMALL, scratch=scratch)
+refused("CryptoAPI 40, 1024 bytes, the last letter changed", small(FORTY_BITS, LONGEST[0]), 27, password=changed(LONGEST[0]), scratch=64)
+for longest, scratch in zip(LONGEST, (64, 2064, 64, 2064)):
+    refused(f"XOR, 1024 bytes in {len(longest)} characters, a scratch of {scratch}", XOR_BOOK, 27, password=longest, scratch=scratch)
 refused("a password of 1025 bytes that is no UTF-8, no scratch, no output", XOR_BOOK, 1, password=b"\xff" * 1025, scratch=0, output=0)
 
 # 2: what is well-formed, RFC 3629 section 4
@@ -179,12 +212,24 @@ for text in ILL:
     refused(f"a password of bytes {text}", XOR_BOOK, 2, password=bytes.fromhex(text))
 refused("no UTF-8, no scratch, no output", XOR_BOOK, 2, password=b"A\xff", scratch=0, output=0)
 
-# 3: the scratch
+# texts that end at, before and behind the end of a block of 64 bytes, and where the hash's own end no longer fits into the last one. CryptoAPI hashes the
+# salt of 16 bytes and the text, 1.1 the text alone. Then a surrogate pair that lies across the end of the first block, and before and behind it
+for name, lock, salted, no_room in ("1.1", Office97(), 0, (27, 28)), ("CryptoAPI", CryptoApi(name=b""), 16, (19, 20)):
+    for count in *no_room, 23, 24, 25, 31, 32, 33, 55, 56, 57, 63, 64, 65:
+        opened(f"{name}, a password of {count} letters", lock, characters(count), SMALL, scratch=64)
+    across = (64 - salted) // 2 - 1
+    for count in across - 1, across, across + 1:
+        opened(f"{name}, a password of {count} letters and a pair", lock, characters(count) + "\U0001d11e", SMALL, scratch=64)
+
+# 3: the scratch. Behind the first 64 bytes it is as it was lent, however long
 for name, lock in ("XOR", XOR), ("1.1", Office97()), ("CryptoAPI", CryptoApi()):
     password = XOR.passwords(8)[0]
-    opened(f"{name}, a scratch of 2064", lock, password, SMALL, scratch=2064)
-    opened(f"{name}, a scratch of 2065", lock, password, SMALL, scratch=2065)
-    refused(f"{name}, a scratch of 2063", small(lock, password), 3, password=password, scratch=2063)
+    for scratch in 64, 65, 2063, 2064, 2065, 2070:
+        opened(f"{name}, a scratch of {scratch}", lock, password, SMALL, scratch=scratch)
+    for scratch in 0, 1, 32, 63:
+        refused(f"{name}, a scratch of {scratch}", small(lock, password), 3, password=password, scratch=scratch)
+    for scratch, number in (63, 3), (64, 27), (2064, 27):
+        refused(f"{name}, another password, a scratch of {scratch}", small(lock, password), number, password=password[:-1], scratch=scratch)
 refused("no scratch, no output", XOR_BOOK, 3, scratch=0, output=0)
 
 # 5: the output
@@ -299,13 +344,17 @@ refused("two other ids before FILEPASS", B + record(0x0042) + record(0x0043) + X
 refused("a FILEPASS of type 2 before one that is XOR", B + record(FILEPASS, b"\2\0") + XOR_BOOK[4:], 11, (2,))
 refused("a password of 1025 bytes, and another id before FILEPASS", B + record(0x0042) + XOR_BOOK[4:], 1, password="p" * 1025, foretold=(9, (0x0042,)))
 refused("no UTF-8, and no FILEPASS", B, 2, password=b"\xff", foretold=(8, ()))
+refused("a password of 1025 bytes, and a scratch of 63", XOR_BOOK, 1, password="p" * 1025, scratch=63)
+refused("no UTF-8, and a scratch of 63", XOR_BOOK, 2, password=b"A\xff", scratch=63)
+refused("a scratch of 63, and an output one byte short", XOR_BOOK, 3, scratch=63, more=-1)
+refused("a scratch of 63, and a header cut short", B[:3], 3, scratch=63, foretold=(6, ()))
 refused("no scratch, and a type of 2", B + record(FILEPASS, b"\2\0"), 3, scratch=0, foretold=(11, (2,)))
 refused("no output, and key size 39", small(CryptoApi(40, stated=39), "calibre"), 5, output=0, foretold=(23, (39,)))
 
 # 27: wrong passwords
 for name, lock in ("XOR", XOR), ("1.1", Office97()), ("CryptoAPI", CryptoApi()):
     password = XOR.passwords(8)[0]
-    for wrong in "", password[:-1], password + " ", password.swapcase(), password[1:] + password[:1], "é", "p" * 1024:
+    for wrong in "", password[:-1], password + " ", password.swapcase(), password[1:] + password[:1], "é":
         if wrong != password:
             refused(f"{name}, another password of {len(wrong)}", small(lock, password), 27, password=wrong)
 # one bit of the verifier's hash, the first and the last byte
@@ -402,7 +451,7 @@ for padding in 1, 2, 3:
     refused(f"{padding} of padding, type 2", B + record(FILEPASS, b"\2\0") + more, 11, (2,))
     refused(f"{padding} of padding, key size 39", SIZE_39 + more, 23, (39,))
     refused(f"{padding} of padding, no UTF-8", XOR_BOOK + more, 2, password=b"\xff")
-    refused(f"{padding} of padding, a scratch of 2063", XOR_BOOK + more, 3, scratch=2063)
+    refused(f"{padding} of padding, a scratch of 63", XOR_BOOK + more, 3, scratch=63)
     opened(f"{padding} of padding, an output as long as the stream", LOCKS[1][1], RIGHT, SMALL, padding=padding, more=0)
     refused(f"{padding} of padding, an output one byte short", XOR_BOOK + more, 5, more=-1)
     refused(f"{padding} of padding, an output as long as the records", XOR_BOOK + more, 5, more=-padding)
@@ -414,6 +463,11 @@ for total, padding, (name, lock) in itertools.product(range(1023, 1027), (1, 2, 
     records = SMALL + [(0x00FD, some(rest, total))]
     opened(f"{name}, {total} with {padding} of padding", lock, RIGHT, records, padding=padding)
     refused(f"{name}, {total} with {padding} of padding, another password", book(lock, RIGHT, records)[0] + bytes(padding), 27, password=RIGHT[:-1])
+
+# the refusals of the stream once more, each by the first case above that has its number, at the least scratch and at a longer one
+for number, scratch in itertools.product(range(6, 27), (64, 2064)):
+    stream, facts, password = firsts[number]
+    refused(f"refusal {number}, a scratch of {scratch}", stream, number, facts, password=password, scratch=scratch)
 
 data = b"".join(cases)
 assert len(data) <= 393216, "more than the program's buffer holds"

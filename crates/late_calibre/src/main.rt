@@ -74,7 +74,7 @@ fn tell_counts(report: excel97::Report) {
 
 // Opens a sheet and writes the last calibre's lift angle with what opening took, or the refusal.
 fn measure(password: &[u8], stream: &[u8]) {
-    let mut scratch = [0u8; 2064];
+    let mut scratch = [0u8; 64];
     let mut output = [0u8; 4096];
     match excel97::open(stream, password, &mut scratch, &mut output) {
         excel97::Answer::Opened(report) => {

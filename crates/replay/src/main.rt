@@ -136,7 +136,7 @@ fn run_lent(
     let padding = first_of(part(want, 42, 1)) as usize;
     let looked = look_same(verdict, &seen, want);
     let opened = (answer as usize == number(want, 76)) & facts_same(&told, part(want, 80, 56));
-    let wiped = zeros(scratch, 2064) & as_lent(scratch, 2064);
+    let wiped = zeros(scratch, 64) & as_lent(scratch, 64);
     let written = output_same(output, answer, part(want, 136, stream.len()));
     Ran {
         answer,
@@ -148,7 +148,7 @@ fn run_lent(
 
 // Runs a case.
 fn run(password: &[u8], stream: &[u8], want: &[u8]) -> Ran {
-    let mut scratch = [0u8; 2070];
+    let mut scratch = [0u8; 70];
     let mut output = [0u8; 16384];
     samples::lend(&mut scratch);
     samples::lend(&mut output);
