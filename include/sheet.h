@@ -23,8 +23,8 @@
 extern "C" {
 #endif
 
-/* The scratch that sheet_open asks for, and the most bytes of a password. */
-#define SHEET_SCRATCH_LEN 2064
+/* The bytes of scratch that sheet_open asks for, and the most bytes of a password. */
+#define SHEET_SCRATCH_LEN 64
 #define SHEET_PASSWORD_MAX_LEN 1024
 
 /* The refusals: a number, its words, and in brackets its details, which are facts[0] and facts[1] then, 0 where none is
@@ -32,7 +32,7 @@ extern "C" {
  *
  *   1  the password is longer than 1,024 bytes
  *   2  the password is not well-formed UTF-8
- *   3  the scratch is shorter than 2,064 bytes
+ *   3  the scratch is shorter than 64 bytes
  *   4  the stream is longer than 1,073,741,824 bytes
  *   5  the output is shorter than the stream
  *   6  a record can't be read: its header or its body is cut off,     (the offset of its header)
@@ -162,8 +162,8 @@ uint32_t sheet_forecast(const uint8_t *stream, size_t stream_len, uint64_t facts
  * Any other answer is a refusal, 1 to 27: the output is as it was, facts[0] and facts[1] are its two details, and the
  * other facts are 0. The lowest number that applies is given.
  *
- * On 1 to 5 the scratch is as it was; otherwise its first 2,064 bytes are zero afterwards, on success too, and the rest
- * is as it was.
+ * On 1 to 5 the scratch is as it was; otherwise its first 64 bytes are zero afterwards, on success too, and the rest is as
+ * it was, however long the scratch is: hosts that lend 2,064 bytes go on working.
  *
  * What the password was made into (digests, keys, RC4 tables; under XOR its own bytes too) also stands in the call's
  * stack frames and in registers, of which no proof can speak once the call has returned. A host that minds should
@@ -172,8 +172,8 @@ uint32_t sheet_forecast(const uint8_t *stream, size_t stream_len, uint64_t facts
  *     inlined and overwrites a local array of 16 KiB through a pointer to volatile. A call was measured to go 3,136
  *     bytes deep, and under 5,800 where the dynamic linker binds memcpy or memset during it;
  *   - link with -z now, or clear the vector registers after the call (vzeroall, and zmm16 to zmm31 where there are
- *     any): memcpy leaves parts of the tables there, and a function bound at its first call, or a signal handled on
- *     the same stack, saves them to the stack;
+ *     any): parts of the tables, and under XOR of the array, are left there, and a function bound at its first call,
+ *     or a signal handled on the same stack, saves them to the stack;
  *   - wipe its own copy of the password.
  *
  * host/examples/embed.c does this. */

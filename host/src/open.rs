@@ -8,8 +8,8 @@ use std::sync::atomic::{compiler_fence, Ordering};
 use crate::ffi;
 use crate::refusal::Refusal;
 
-/// The scratch that [`open`] asks for, in bytes.
-pub const SCRATCH_LEN: usize = 2064;
+/// The scratch that [`open`] asks for, in bytes. A longer one is fine.
+pub const SCRATCH_LEN: usize = 64;
 
 /// The most bytes of a password.
 pub const PASSWORD_MAX_LEN: usize = 1024;
@@ -70,7 +70,8 @@ pub struct Report {
 /// `output[..stream.len()]` is the plain stream, in which every record stands where it stood and
 /// padding, one to three zero bytes behind the last record, comes through; the rest of the output
 /// is as it was. On a refusal the whole output is as it was. The scratch has [`SCRATCH_LEN`] bytes
-/// or more; those end zero, save on refusals 1 to 5, which leave it as it was.
+/// or more. Its first [`SCRATCH_LEN`] bytes end zero, save on refusals 1 to 5, which leave it as it
+/// was; the rest is as it was, however long it is.
 ///
 /// No two of the four can overlap where one is written: the borrow rules admit nothing else beside
 /// a `&mut [u8]`.

@@ -64,7 +64,7 @@ impl Refusal {
         match self.number {
             1 => "the password is longer than 1,024 bytes",
             2 => "the password is not well-formed UTF-8",
-            3 => "the scratch is shorter than 2,064 bytes",
+            3 => "the scratch is shorter than 64 bytes",
             4 => "the stream is longer than 1,073,741,824 bytes",
             5 => "the output is shorter than the stream",
             6 => "a record can't be read, its header or its body is cut off",

@@ -1,18 +1,15 @@
 //! Every function through the wrapper, on buffers of every length around each limit, with guard
-//! bytes around each buffer. The directory, the forecast and padding have their own tests, in
-//! directory.rs, forecast.rs and padding.rs.
+//! bytes around each buffer. The directory, the forecast, padding and the scratch have their own
+//! tests, in directory.rs, forecast.rs, padding.rs and scratch.rs.
 
 mod common;
 
 use common::book::{clear_len, Book, Kind, BOF, FILEPASS, KINDS};
 use common::guarded::Guarded;
 use common::lent::Lent;
-use sheet::{Fault, Record, Refusal, Report, Verdict};
+use common::opening::refused;
+use sheet::{Fault, Record, Verdict};
 use sheet::{PASSWORD_MAX_LEN, SCRATCH_LEN, STREAM_MAX_LEN};
-
-fn refused(number: u32, details: [u64; 2]) -> Result<Report, Refusal> {
-    Err(Refusal::new(number, details))
-}
 
 #[test]
 fn every_lock_opens() {
@@ -40,10 +37,10 @@ fn another_password_is_refused() {
 fn scratch_of_every_length_around_its_limit() {
     for kind in KINDS {
         let book = Book::small(kind);
-        for len in [0, 1, 2063, 2064, 2065, 5000] {
+        for len in (0..=130).chain([2063, 2064, 2065, 5000]) {
             let password = book.password.as_bytes();
             let mut lent = Lent::new(&book.locked, password, len, book.locked.len());
-            if len < SCRATCH_LEN {
+            if len < 64 {
                 assert_eq!(lent.open(), refused(3, [0, 0]), "{kind:?} {len}");
             } else {
                 lent.open_to(&book.plain);
@@ -78,8 +75,7 @@ fn passwords_of_every_length_around_the_limit() {
                 (text.repeat(len / bytes) + &"y".repeat(len % bytes)).leak();
             assert_eq!(password.len(), len);
             for kind in [Kind::Office97, Kind::CryptoApi(128, true)] {
-                let records = [(BOF, vec![]), (FILEPASS, vec![]), (0x0204, vec![1, 2, 3])];
-                let book = Book::new(kind, password, &records);
+                let book = Book::least(kind, password);
                 let mut lent = Lent::enough(&book.locked, password.as_bytes());
                 if len > PASSWORD_MAX_LEN {
                     assert_eq!(lent.open(), refused(1, [0, 0]), "{kind:?} {len}");
@@ -99,8 +95,7 @@ fn passwords_of_every_length_around_the_limit() {
 fn passwords_of_every_length_for_xor() {
     for len in 1..=15 {
         let password = &"Ankerhemmung 7!"[..len];
-        let records = [(BOF, vec![]), (FILEPASS, vec![]), (0x0204, vec![1, 2, 3])];
-        let book = Book::new(Kind::Xor, password, &records);
+        let book = Book::least(Kind::Xor, password);
         Lent::enough(&book.locked, password.as_bytes()).open_to(&book.plain);
     }
 }
@@ -160,15 +155,10 @@ fn empty_slices() {
 fn a_book_cut_at_every_length_is_opened_as_far_as_it_goes() {
     for kind in KINDS {
         let book = Book::small(kind);
-        let (_, lock_end) = book.filepass();
         for len in 0..=book.locked.len() {
             let mut lent = Lent::enough(&book.locked[..len], book.password.as_bytes());
-            if let Some(at) = book.cut_record(len) {
-                assert_eq!(lent.open(), refused(6, [at as u64, 0]), "{kind:?} {len}");
-            } else if len == 0 {
-                assert_eq!(lent.open(), refused(7, [0, 0]));
-            } else if len < lock_end {
-                assert_eq!(lent.open(), refused(8, [0, 0]), "{kind:?} {len}");
+            if let Some(refusal) = book.refusal_in(len) {
+                assert_eq!(lent.open(), Err(refusal), "{kind:?} {len}");
             } else {
                 let report = lent.open_to(&book.plain[..len]);
                 assert_eq!(report, book.report_in(len), "{kind:?} {len}");

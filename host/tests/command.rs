@@ -9,6 +9,7 @@ use std::process::Stdio;
 
 use common::bench::{Bench, Ran, FORECAST, PASSWORD, REPORT};
 use common::book::{clear_len, Book, Kind, BOF, FILEPASS, KINDS};
+use common::passwords::longest;
 use common::process::{run, Process};
 use common::walk::walk;
 
@@ -331,6 +332,26 @@ fn open_reports_every_lock() {
         assert_eq!((ran.status, ran.out, &ran.err[..]), (Some(0), expected, ""));
         assert!(bench.read("plain") == book.plain);
     }
+}
+
+#[test]
+fn a_password_of_1024_bytes_opens() {
+    let bench = Bench::new();
+    for kind in [Kind::Office97, Kind::CryptoApi(128, true)] {
+        for password in longest() {
+            let book = Book::long_under(kind, password);
+            bench.write("book", &book.locked);
+            bench.write("password", format!("{password}\r\n").as_bytes());
+            let by_file = bench.run("open book -o one --password-file password");
+            let by_variable = bench.run_with("open book -o two", password);
+            for (ran, output) in [(by_file, "one"), (by_variable, "two")] {
+                let expected = report_of(&book);
+                assert_eq!((ran.status, ran.out, &ran.err[..]), (Some(0), expected, ""));
+                assert!(bench.read(output) == book.plain);
+            }
+        }
+    }
+    bench.has_only(&["book", "one", "password", "two"]);
 }
 
 #[test]

@@ -1,4 +1,5 @@
-//! The C example and two smaller programs, compiled as a C host would compile them, and run.
+//! The C example, also with a longer scratch, and two smaller programs, compiled as a C host would
+//! compile them, and run.
 
 mod common;
 
@@ -71,6 +72,22 @@ fn the_c_example_opens_the_sample() {
             assert_eq!(unread.status.code(), Some(2));
             assert!(words(&unread.stderr).starts_with("usage: "));
         }
+    }
+}
+
+#[test]
+fn a_c_host_that_lends_a_longer_scratch() {
+    let folder = Folder::new();
+    let example = fs::read_to_string(file("examples/embed.c")).unwrap();
+    let longer = example.replace("scratch[SHEET_SCRATCH_LEN]", "scratch[2064]");
+    assert_ne!(longer, example);
+    let source = folder.write("longer.c", longer.as_bytes());
+    for level in ["-O0", "-O2"] {
+        let program = compile(&folder, &source, level);
+        let password = file("examples/calibres.password");
+        let opened = run(&program, &file("examples/calibres.bin"), &password);
+        assert_eq!(opened.status.code(), Some(0));
+        assert_eq!(words(&opened.stdout), "186 records\n");
     }
 }
 

@@ -4,14 +4,13 @@
 mod common;
 
 use common::bare;
-use common::book::{book, front, joined, keys, Book, Kind, BOF, BOUND_SHEET, EOF, FILEPASS, KINDS};
+use common::book::{
+    book, front, joined, keys, Book, Kind, BOF, BOUND_SHEET, CLEAR, EOF, FILEPASS, KINDS, ROW,
+};
 use common::opening::{check, check_book, counts, forecast, open, refused, told};
+use common::parts::{Lock, LOCK, PARTS, QUESTIONS};
 use common::walk::walk;
 use sheet::{Forecast, Refusal, SCRATCH_LEN, STREAM_MAX_LEN};
-
-/// A record whose body is enciphered whole, and one whose body is clear.
-const ROW: u16 = 0x0204;
-const CLEAR: u16 = 0x00E1;
 
 #[test]
 fn a_key_for_each_started_block_and_one_for_the_check() {
@@ -148,15 +147,10 @@ fn a_forecast_goes_on_where_a_look_ends() {
 fn a_book_cut_at_every_length() {
     for kind in KINDS {
         let whole = Book::small(kind);
-        let (_, lock_end) = whole.filepass();
         for len in 0..=whole.locked.len() {
             let stream = &whole.locked[..len];
-            if let Some(at) = whole.cut_record(len) {
-                check(stream, refused(6, [at as u64, 0]));
-            } else if len == 0 {
-                check(stream, refused(7, [0, 0]));
-            } else if len < lock_end {
-                check(stream, refused(8, [0, 0]));
+            if let Some(refusal) = whole.refusal_in(len) {
+                check(stream, Err(refusal));
             } else {
                 check(stream, Ok(whole.forecast_in(len)));
                 let answer = open(stream, whole.password.as_bytes());
@@ -197,161 +191,6 @@ fn an_empty_stream() {
     assert_eq!(bare::forecast(&[]), (7, [0; 8]));
     check(&[], refused(7, [0, 0]));
 }
-
-/// The parts of a stream that the questions are asked of: a first record, one before the lock, the
-/// lock, and bytes behind the last record.
-#[derive(Clone, Copy)]
-struct Parts {
-    first: u16,
-    before: u16,
-    filepass: u16,
-    lock: Lock,
-    behind: &'static [u8],
-}
-
-/// The fields of a CryptoAPI lock, and how many bytes of the FILEPASS body are left at most.
-#[derive(Clone, Copy)]
-struct Lock {
-    kind: u16,
-    major: u16,
-    minor: u16,
-    size: u32,
-    flags: u32,
-    cipher: u32,
-    hash: u32,
-    bits: u32,
-    salt_size: u32,
-    hash_size: u32,
-    len: usize,
-}
-
-/// Parts that nothing is wrong with.
-const PARTS: Parts = Parts {
-    first: BOF,
-    before: CLEAR,
-    filepass: FILEPASS,
-    lock: LOCK,
-    behind: &[],
-};
-
-const LOCK: Lock = Lock {
-    kind: 1,
-    major: 4,
-    minor: 2,
-    size: 32,
-    flags: 0x0C,
-    cipher: 0x6801,
-    hash: 0x8004,
-    bits: 128,
-    salt_size: 16,
-    hash_size: 20,
-    len: usize::MAX,
-};
-
-impl Parts {
-    fn stream(&self) -> Vec<u8> {
-        let records = joined(&[
-            (self.first, vec![]),
-            (self.before, vec![]),
-            (self.filepass, self.lock.body()),
-            (ROW, vec![1, 2, 3]),
-        ]);
-        [&records[..], self.behind].concat()
-    }
-
-    /// Makes the question with a number be answered by no.
-    fn spoil(&mut self, number: u32) {
-        let lock = &mut self.lock;
-        match number {
-            6 => self.behind = &[0, 0, 1],
-            7 => self.first = CLEAR,
-            8 => self.filepass = CLEAR,
-            9 => self.before = 0x0042,
-            10 => lock.len = lock.len.min(1),
-            11 => lock.kind = 2,
-            12 => lock.len = lock.len.min(5),
-            13 => lock.major = 5,
-            15 => lock.len = lock.len.min(13),
-            16 => lock.size = 31,
-            17 => lock.len = lock.len.min(45),
-            18 => lock.flags |= 0x10,
-            19 => lock.flags |= 0x20,
-            20 => lock.flags &= !0x04,
-            21 => lock.cipher = 0x6802,
-            22 => lock.hash = 0x8003,
-            23 => lock.bits = 44,
-            24 => lock.len = lock.len.min(105),
-            25 => lock.salt_size = 17,
-            26 => lock.hash_size = 16,
-            _ => panic!("no question {number}"),
-        }
-    }
-
-    /// The details of that question, if none with a lower number is answered by no.
-    fn details(&self, number: u32) -> [u64; 2] {
-        match number {
-            6 => [self.stream().len() as u64 - 3, 0],
-            7 | 8 => [0, 0],
-            9 => [0x0042, 0],
-            10 => [1, 2],
-            11 => [2, 0],
-            12 => [3, 4],
-            13 => [5, 2],
-            15 => [11, 12],
-            16 => [31, 0],
-            17 => [32, 43],
-            18..=20 => [self.lock.flags.into(), 0],
-            21 => [0x6802, 0],
-            22 => [0x8003, 0],
-            23 => [44, 0],
-            24 => [59, 60],
-            25 => [17, 0],
-            26 => [16, 0],
-            _ => panic!("no question {number}"),
-        }
-    }
-}
-
-impl Lock {
-    /// The FILEPASS body. A header whose size is not allowed has 32 bytes.
-    fn body(&self) -> Vec<u8> {
-        let head = [self.kind, self.major, self.minor].map(u16::to_le_bytes);
-        let fields = [0x0C, self.size, self.flags, 0, self.cipher, self.hash];
-        let fields = fields.map(u32::to_le_bytes);
-        let ends = [self.bits, 1, 0, 0].map(u32::to_le_bytes);
-        let name = match self.size {
-            32..=1024 => vec![0; self.size as usize - 32],
-            _ => vec![],
-        };
-        let mut body = [
-            &head.concat()[..],
-            &fields.concat(),
-            &ends.concat(),
-            &name,
-            &self.salt_size.to_le_bytes(),
-            &[0x11; 32],
-            &self.hash_size.to_le_bytes(),
-            &[0x22; 20],
-        ]
-        .concat();
-        body.truncate(self.len);
-        body
-    }
-
-    /// A stream with this lock and nothing else that is wrong.
-    fn stream(self) -> Vec<u8> {
-        let parts = Parts {
-            lock: self,
-            ..PARTS
-        };
-        parts.stream()
-    }
-}
-
-/// The questions that can be asked of a stream with a CryptoAPI lock, but for its length.
-const QUESTIONS: [u32; 20] = [
-    6, 7, 8, 9, 10, 11, 12, 13, 15, 16, 17, 18, 19, 20, 21, 22, 23, 24, 25, 26,
-];
 
 /// Sees that of these questions, all answered by no, the first is told.
 #[track_caller]

@@ -258,6 +258,14 @@ fn header_refusals() -> Vec<(u32, String)> {
         .collect()
 }
 
+/// What `sheet refusals` prints: a line for each refusal.
+fn refusals_table() -> String {
+    let mut refusals = Command::new(env!("CARGO_BIN_EXE_sheet"));
+    let ran = run(refusals.arg("refusals").stdin(Stdio::null()));
+    assert!(ran.status.success());
+    String::from_utf8(ran.stdout).unwrap()
+}
+
 #[test]
 fn every_refusal_has_words() {
     let header = header_refusals();
@@ -265,10 +273,7 @@ fn every_refusal_has_words() {
     let all: Vec<u32> = (1..=sheet::REFUSALS).collect();
     assert_eq!(all.len(), 29);
     assert_eq!(numbers, all);
-    let mut refusals = Command::new(env!("CARGO_BIN_EXE_sheet"));
-    let ran = run(refusals.arg("refusals").stdin(Stdio::null()));
-    assert!(ran.status.success());
-    let table = String::from_utf8(ran.stdout).unwrap();
+    let table = refusals_table();
     assert_eq!(table.lines().count(), 29);
     let unknown = Refusal::new(99, [0, 0]);
     for (line, (number, words)) in table.lines().zip(&header) {
@@ -282,6 +287,15 @@ fn every_refusal_has_words() {
         let words = format!("{number}\t{}; {}", refusal.meaning(), refusal.advice());
         assert!(line.starts_with(&words), "{line}");
     }
+}
+
+#[test]
+fn the_words_of_3_name_64_bytes() {
+    let words = "the scratch is shorter than 64 bytes";
+    assert_eq!(header_refusals()[2], (3, words.to_string()));
+    assert_eq!(Refusal::new(3, [0, 0]).meaning(), words);
+    let line = format!("\n3\t{words}; ");
+    assert!(refusals_table().contains(&line));
 }
 
 #[test]

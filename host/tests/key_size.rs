@@ -3,7 +3,7 @@
 
 mod common;
 
-use common::book::{Book, Kind, BOF, EOF, FILEPASS};
+use common::book::{Book, Kind, BOF, CLEAR, EOF, FILEPASS};
 use common::guarded::Guarded;
 use sheet::{Facts, Lock, Refusal, Report, Verdict, SCRATCH_LEN};
 
@@ -12,9 +12,6 @@ const LOOK_LEN: usize = 1 << 20;
 
 /// Where the key size stands in a FILEPASS body, behind the record's header of four bytes.
 const KEY_SIZE: usize = 30;
-
-/// A clear record, to fill the space before the lock.
-const CLEAR: u16 = 0x00E1;
 
 /// A book under CryptoAPI whose key has so many bits, and whose header states this key size.
 fn book(bits: u32, stated: u32, before: &[(u16, Vec<u8>)]) -> Book {

@@ -12,6 +12,7 @@ use std::thread;
 
 use common::bare::sheet_open;
 use common::book::{Book, Kind, BLOCK, KINDS};
+use common::passwords::longest;
 use common::rc4::Rc4;
 use common::{digest, utf16, xor};
 
@@ -19,8 +20,10 @@ use common::{digest, utf16, xor};
 const REGION: usize = 128 * 1024;
 const PAINT: u8 = 0xA5;
 
-/// A run of this many bytes of a secret counts as found.
+/// A run of this many bytes of a secret counts as found, if this many of them are not zero: keys of
+/// 40 bits end in zeros, and with one or two bytes of a key they are any small number.
 const RUN: usize = 8;
+const TELLING: usize = 3;
 
 /// Paints the stack below the stack pointer of the function that this stands in.
 macro_rules! paint {
@@ -167,11 +170,17 @@ fn both_forms(name: &str, bytes: &[u8], secrets: &mut Secrets) {
     secrets.push((format!("{name}, in words"), words));
 }
 
+/// The text of a password, as it is given and as it is hashed.
+fn text_of(password: &str) -> Secrets {
+    let mut secrets = Vec::new();
+    both_forms("password, UTF-8", password.as_bytes(), &mut secrets);
+    both_forms("password, UTF-16LE", &utf16(password), &mut secrets);
+    secrets
+}
+
 /// All that a book's password is made into.
 fn secrets(book: &Book) -> Secrets {
-    let mut secrets = Vec::new();
-    both_forms("password, UTF-8", book.password.as_bytes(), &mut secrets);
-    both_forms("password, UTF-16LE", &utf16(book.password), &mut secrets);
+    let mut secrets = text_of(book.password);
     if book.kind == Kind::Xor {
         let array = xor::array(book.password.as_bytes());
         // The array goes round.
@@ -200,12 +209,11 @@ fn secrets(book: &Book) -> Secrets {
     secrets
 }
 
-/// The names of the secrets of which a run of bytes stands in the region. Runs of one byte value
-/// over and over are passed by: keys of 40 bits end in zeros.
+/// The names of the secrets of which a run of bytes stands in the region.
 fn found(secrets: &Secrets, region: &[u8]) -> Vec<String> {
     let runs: std::collections::HashSet<&[u8]> = region.windows(RUN).collect();
     let shorter = |secret: &[u8]| region.windows(secret.len()).any(|window| window == secret);
-    let telling = |run: &&[u8]| run.iter().any(|byte| *byte != run[0]);
+    let telling = |run: &&[u8]| run.iter().filter(|byte| **byte != 0).count() >= TELLING;
     secrets
         .iter()
         .filter(|(_, secret)| match secret.len() {
@@ -225,61 +233,96 @@ fn depth(region: &[u8]) -> usize {
     region.len() - untouched
 }
 
+/// Books under each lock: a small one, a long one, and such under passwords of 1,024 bytes, where the
+/// lock takes these.
+fn books() -> Vec<Book> {
+    let mut books = Vec::new();
+    for kind in KINDS {
+        books.extend([Book::small(kind), Book::long(kind)]);
+        if kind != Kind::Xor {
+            books.extend(longest().map(|password| Book::long_under(kind, password)));
+        }
+    }
+    books
+}
+
+/// What a book is called in a message.
+fn name(book: &Book) -> String {
+    let (kind, len) = (book.kind, book.locked.len());
+    let password = book.password.len();
+    format!("{kind:?}, {len} bytes, password of {password}")
+}
+
+/// Sees that an opening through the wrapper is answered by a number, and that none of the secrets is
+/// left behind.
+#[track_caller]
+fn check_nothing_left(stream: &[u8], password: &str, secrets: &Secrets, expected: u32) {
+    let (number, region, vectors) = left_behind(wrapped_open, stream, password);
+    assert_eq!(number, expected);
+    assert_eq!(found(secrets, &region), [""; 0]);
+    assert_eq!(found(secrets, &vectors), [""; 0]);
+}
+
+#[test]
+fn the_search_finds_a_key_of_40_bits_and_no_small_number() {
+    let key = [
+        0x91, 0x0D, 0xE2, 0x75, 0x06, 0, 0, 0, 0, 0, 0, 0, 0, 0, 0, 0,
+    ];
+    let secrets = vec![("key".to_string(), key.to_vec())];
+    let painted = [PAINT; 20];
+    for (from, expected) in [(0, 1), (1, 1), (2, 1), (3, 0), (4, 0), (5, 0)] {
+        let region = [&painted, &key[from..], &painted].concat();
+        assert_eq!(found(&secrets, &region).len(), expected, "{from}");
+    }
+}
+
 #[test]
 fn nothing_of_the_password_is_left_behind() {
-    for kind in KINDS {
-        for book in [Book::small(kind), Book::long(kind)] {
-            let secrets = secrets(&book);
-            let (number, region, vectors) = left_behind(wrapped_open, &book.locked, book.password);
-            assert_eq!(number, 0);
-            assert_eq!(found(&secrets, &region), [""; 0], "{kind:?}");
-            assert_eq!(found(&secrets, &vectors), [""; 0], "{kind:?}");
-        }
+    for book in books() {
+        check_nothing_left(&book.locked, book.password, &secrets(&book), 0);
     }
 }
 
 #[test]
 fn nothing_of_a_password_that_does_not_pass_is_left_behind_either() {
-    for kind in KINDS {
+    for book in books() {
         // The right one for a book like it, so that its secrets are known.
-        let book = Book::long(kind);
-        let secrets = secrets(&book);
         let mut stream = book.locked.clone();
         let (_, lock_end) = book.filepass();
         stream[lock_end - 1] ^= 1;
-        let (number, region, vectors) = left_behind(wrapped_open, &stream, book.password);
-        assert_eq!(number, 27);
-        assert_eq!(found(&secrets, &region), [""; 0], "{kind:?}");
-        assert_eq!(found(&secrets, &vectors), [""; 0], "{kind:?}");
+        check_nothing_left(&stream, book.password, &secrets(&book), 27);
+    }
+    // Under XOR none of 1,024 bytes passes.
+    let book = Book::long(Kind::Xor);
+    for password in longest() {
+        check_nothing_left(&book.locked, password, &text_of(password), 27);
     }
 }
 
 #[test]
 fn the_same_search_finds_secrets_where_nothing_is_scrubbed() {
-    for kind in KINDS {
-        for book in [Book::small(kind), Book::long(kind)] {
-            let (number, region, vectors) = left_behind(bare_open, &book.locked, book.password);
-            assert_eq!(number, 0);
-            let names = found(&secrets(&book), &region);
-            println!("{kind:?}, {} bytes: {names:?}", book.locked.len());
-            // Which registers memcpy uses depends on the machine, so nothing is expected of them.
-            println!("in registers: {:?}", found(&secrets(&book), &vectors));
-            let sort = |word: &str| names.iter().any(|name| name.starts_with(word));
-            match kind {
-                Kind::Xor => assert!(sort("password") && sort("XOR array")),
-                _ => assert!(sort("H0") && sort("key") && sort("table")),
-            }
+    for book in books() {
+        let (number, region, vectors) = left_behind(bare_open, &book.locked, book.password);
+        assert_eq!(number, 0);
+        let names = found(&secrets(&book), &region);
+        println!("{}: {names:?}", name(&book));
+        // Which registers memcpy uses depends on the machine, so nothing is expected of them.
+        println!("in registers: {:?}", found(&secrets(&book), &vectors));
+        let sort = |word: &str| names.iter().any(|name| name.starts_with(word));
+        match book.kind {
+            Kind::Xor => assert!(sort("password") && sort("XOR array")),
+            _ => assert!(sort("H0") && sort("key") && sort("table")),
         }
     }
 }
 
 #[test]
 fn a_call_uses_far_less_of_the_stack_than_is_scrubbed() {
-    for kind in KINDS {
-        let book = Book::long(kind);
-        let (_, bare, _) = left_behind(bare_open, &book.locked, book.password);
-        let (_, wrapped, _) = left_behind(wrapped_open, &book.locked, book.password);
-        println!("{kind:?}: {} of {}", depth(&bare), depth(&wrapped));
+    for book in books() {
+        let (first, bare, _) = left_behind(bare_open, &book.locked, book.password);
+        let (second, wrapped, _) = left_behind(wrapped_open, &book.locked, book.password);
+        assert_eq!((first, second), (0, 0));
+        println!("{}: {} of {}", name(&book), depth(&bare), depth(&wrapped));
         assert!(depth(&bare) < 8 * 1024);
         assert!(depth(&wrapped) >= 16 * 1024);
     }

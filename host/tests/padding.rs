@@ -6,7 +6,7 @@ mod common;
 use common::bare;
 use common::book::{
     book, clear_len, front, header, joined, keys, rows_in, Book, BOF, BOUND_SHEET, EOF, FILEPASS,
-    KINDS,
+    KINDS, ROW,
 };
 use common::lent::Lent;
 use common::opening::{check, check_book, refused};
@@ -15,9 +15,6 @@ use sheet::{Fault, Record, Refusal, Verdict, SCRATCH_LEN};
 
 /// The stream's length at which a look ends.
 const MEBIBYTE: usize = 1 << 20;
-
-/// A record whose body is enciphered whole.
-const ROW: u16 = 0x0204;
 
 /// All streams of so many bytes, each of them one of these.
 fn streams_of(bytes: &[u8], len: usize) -> Vec<Vec<u8>> {

@@ -69,7 +69,13 @@ pub fn forecast(stream: &[u8]) -> Answer {
 
 #[track_caller]
 pub fn open(stream: &[u8], password: &[u8]) -> Answer {
-    let mut scratch = [0; SCRATCH_LEN];
+    open_lent(stream, password, SCRATCH_LEN)
+}
+
+/// An opening that is lent a scratch of so many bytes.
+#[track_caller]
+pub fn open_lent(stream: &[u8], password: &[u8], scratch: usize) -> Answer {
+    let mut scratch = vec![0; scratch];
     let mut output = vec![0; stream.len()];
     // SAFETY: as the wrapper has it.
     answer(|facts| unsafe {

@@ -8,7 +8,10 @@ pub const BOF: u16 = 0x0809;
 pub const FILEPASS: u16 = 0x002F;
 pub const BOUND_SHEET: u16 = 0x0085;
 pub const EOF: u16 = 0x000A;
-const SEVEN: [u16; 7] = [BOF, FILEPASS, 0x00E1, 0x0138, 0x0194, 0x0195, 0x0196];
+/// A record whose body is clear, and one whose body is enciphered whole.
+pub const CLEAR: u16 = 0x00E1;
+pub const ROW: u16 = 0x0204;
+const SEVEN: [u16; 7] = [BOF, FILEPASS, CLEAR, 0x0138, 0x0194, 0x0195, 0x0196];
 
 pub const SALT: [u8; 16] = *b"0123456789:;<=>?";
 const VERIFIER: [u8; 16] = *b"\xC0\xC1\xC2\xC3\xC4\xC5\xC6\xC7\xC8\xC9\xCA\xCB\xCC\xCD\xCE\xCF";
@@ -210,20 +213,31 @@ impl Book {
         }
     }
 
+    /// A book of BOF, the lock and a row of three bytes.
+    pub fn least(kind: Kind, password: &'static str) -> Book {
+        let records = [(BOF, vec![]), (FILEPASS, vec![]), (ROW, vec![1, 2, 3])];
+        Book::new(kind, password, &records)
+    }
+
     /// A book of some hundred bytes, with every kind of record that is treated apart.
     pub fn small(kind: Kind) -> Book {
-        Book::of(kind, 8, 20)
+        Book::of(kind, kind.password(), 8, 20)
     }
 
     /// A book of several blocks.
     pub fn long(kind: Kind) -> Book {
-        Book::of(kind, 40, 200)
+        Book::long_under(kind, kind.password())
     }
 
-    fn of(kind: Kind, rows: usize, longest: usize) -> Book {
+    /// The same under another password.
+    pub fn long_under(kind: Kind, password: &'static str) -> Book {
+        Book::of(kind, password, 40, 200)
+    }
+
+    fn of(kind: Kind, password: &'static str, rows: usize, longest: usize) -> Book {
         let mut records = vec![
             (BOF, vec![0, 6, 5, 0]),
-            (0x00E1, vec![0xB0, 0x04]),
+            (CLEAR, vec![0xB0, 0x04]),
             (FILEPASS, Vec::new()),
             (BOUND_SHEET, b"\0\0\0\0\0\0\x05\0Werke".to_vec()),
             (BOUND_SHEET, b"\0\0".to_vec()),
@@ -234,10 +248,10 @@ impl Book {
         ];
         for row in 0..rows {
             let body = (0..row * 31 % longest).map(|k| (row * 7 + k * 3) as u8);
-            records.push((0x0204, body.collect()));
+            records.push((ROW, body.collect()));
         }
         records.push((EOF, Vec::new()));
-        Book::new(kind, kind.password(), &records)
+        Book::new(kind, password, &records)
     }
 
     /// A book of sheets with rows of so many bytes each and a chart, and the starts that its entries
@@ -292,6 +306,17 @@ impl Book {
         let last = self.headers.iter().rev().find(|at| **at < len)?;
         let whole = self.headers.iter().find(|at| **at > *last);
         (len != *whole.unwrap_or(&self.locked.len())).then_some(*last)
+    }
+
+    /// The refusal of the first `len` bytes, if they are refused whatever the password.
+    pub fn refusal_in(&self, len: usize) -> Option<sheet::Refusal> {
+        let (_, lock_end) = self.filepass();
+        match self.cut_record(len) {
+            Some(at) => Some(sheet::Refusal::new(6, [at as u64, 0])),
+            None if len == 0 => Some(sheet::Refusal::new(7, [0, 0])),
+            None if len < lock_end => Some(sheet::Refusal::new(8, [0, 0])),
+            None => None,
+        }
     }
 
     /// How many records there are in the first `len` bytes.
@@ -395,7 +420,7 @@ fn filling(mut bytes: usize) -> Vec<(u16, Vec<u8>)> {
     let mut rows = Vec::new();
     while bytes > 0 {
         let len = if bytes < 40 { bytes } else { 20 };
-        rows.push((0x0204, vec![rows.len() as u8; len - 4]));
+        rows.push((ROW, vec![rows.len() as u8; len - 4]));
         bytes -= len;
     }
     rows

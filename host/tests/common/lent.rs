@@ -4,6 +4,10 @@ use sheet::{Refusal, Report, SCRATCH_LEN};
 
 use super::guarded::{Guarded, FILL};
 
+/// How many bytes of the scratch end zero. A number of its own, so that a wrong constant of the
+/// wrapper is noticed.
+const ZEROED: usize = 64;
+
 /// The buffers of a call to `open`.
 pub struct Lent {
     stream: Guarded,
@@ -51,7 +55,7 @@ impl Lent {
         match answer {
             Err(refusal) if refusal.number() <= 5 => self.scratch.check_untouched(),
             _ => {
-                let (used, behind) = self.scratch.get().split_at(SCRATCH_LEN);
+                let (used, behind) = self.scratch.get().split_at(ZEROED);
                 assert!(used.iter().all(|byte| *byte == 0));
                 assert!(behind.iter().all(|byte| *byte == FILL));
             }

@@ -9,6 +9,8 @@ pub mod folder;
 pub mod guarded;
 pub mod lent;
 pub mod opening;
+pub mod parts;
+pub mod passwords;
 pub mod process;
 pub mod pty;
 pub mod rc4;

@@ -62,7 +62,8 @@ pub fn told(counts: [usize; 4]) -> Result<Forecast, Refusal> {
     })
 }
 
-pub fn refused(number: u32, details: [u64; 2]) -> Result<Forecast, Refusal> {
+/// A refusal, as the answer of any function that refuses.
+pub fn refused<T>(number: u32, details: [u64; 2]) -> Result<T, Refusal> {
     Err(Refusal::new(number, details))
 }
 
