@@ -3,7 +3,7 @@
 use crate::generate::Case;
 use crate::oracle::{self, Answer};
 use crate::paper;
-use crate::port::{self, SCRATCH_LEN};
+use crate::port::{self, LONG_SCRATCH_LEN, PASSWORD_MAX_LEN, SCRATCH_LEN};
 use std::collections::BTreeMap;
 use std::time::{Duration, Instant};
 
@@ -38,6 +38,10 @@ pub struct Compare {
     /// How many streams are padded, which the Rust refuses and T-05 decides; and how many of them opened, by lock.
     padded: u64,
     padded_opened: [u64; 3],
+    /// Of the cases that are lent enough, how many have a scratch of exactly what is needed, of more that is not long, and a long one.
+    scratches: [u64; 3],
+    /// How many passwords of the greatest length opened, by lock: none does under XOR.
+    longest_opened: [u64; 3],
     sealed_from_plain: u64,
     differences: u64,
     first: Vec<String>,
@@ -67,10 +71,14 @@ impl Compare {
         }
         if let Ok(answer) = answer {
             *self.numbers.entry(answer.number).or_default() += 1;
+            if !(1..=5).contains(&answer.number) {
+                self.scratches[usize::from(case.scratch_len > SCRATCH_LEN) + usize::from(case.scratch_len >= LONG_SCRATCH_LEN)] += 1;
+            }
             if answer.number == 0 {
                 let [_, lock, key_bits, sealed, ..] = answer.facts;
                 *self.opened.entry([lock, key_bits, sealed]).or_default() += 1;
                 self.padded_opened[lock as usize] += padded;
+                self.longest_opened[lock as usize] += u64::from(case.password.len() == PASSWORD_MAX_LEN);
                 self.sealed_from_plain += u64::from(case.plain.is_some());
             }
         }
@@ -169,6 +177,7 @@ impl Compare {
         if !all(rest, mark) {
             faults.push("open: the output is written to beyond the plain stream".to_string());
         }
+        // exactly so many bytes end zero, and all others, however many, are as they were lent
         let wiped = if (1..=5).contains(&answer.number) { 0 } else { SCRATCH_LEN };
         if !all(&self.scratch[..wiped], 0) || !all(&self.scratch[wiped..], mark) {
             faults.push("open: the scratch is not as it should be".to_string());
@@ -240,6 +249,10 @@ impl Compare {
         println!("of them compared with what was sealed\t{}", self.sealed_from_plain);
         let [xor, old, api] = self.padded_opened;
         println!("padded, judged by T-05\t{}, of them opened {}: XOR {xor}, 1.1 {old}, CryptoAPI {api}", self.padded, xor + old + api);
+        let [exact, more, long] = self.scratches;
+        println!("lent enough, with a scratch of {SCRATCH_LEN}\t{exact}, of more but below {LONG_SCRATCH_LEN} {more}, of {LONG_SCRATCH_LEN} or more {long}");
+        let [_, old, api] = self.longest_opened;
+        println!("opened with a password of {PASSWORD_MAX_LEN} bytes\t{}: 1.1 {old}, CryptoAPI {api}", old + api);
         let never = self.never();
         println!("outcomes that never occurred\t{}", if never.is_empty() { "none".to_string() } else { never.join(", ") });
         println!("differences\t{}", self.differences);
@@ -261,7 +274,7 @@ impl Compare {
     }
 
     /// Of what can occur in a run: questions 1 to 3 and 5 to 27, every lock with each of its key sizes, a key size of 0 in Look, forecasts of both
-    /// kinds, and padded books that open under each lock.
+    /// kinds, padded books that open under each lock, each kind of scratch, and passwords of the greatest length that open under each RC4 lock.
     fn never(&self) -> Vec<String> {
         let numbers = (0..=27).filter(|number| *number != 4 && !self.numbers.contains_key(number)).map(|number| number.to_string());
         let mut reports = vec![[0, 0, 0], [1, 40, 0]];
@@ -272,7 +285,9 @@ impl Compare {
         let by_standard = (self.by_standard == 0).then(|| "look at a key size of 0".to_string());
         let forecasts = self.forecasts.contains(&0).then(|| "a forecast that tells, or one that refuses".to_string());
         let padded = self.padded_opened.contains(&0).then(|| "a padded book opened under each lock".to_string());
-        numbers.chain(reports).chain(by_standard).chain(forecasts).chain(padded).collect()
+        let scratches = self.scratches.contains(&0).then(|| "a scratch of just enough, of more, or a long one".to_string());
+        let longest = self.longest_opened[1..].contains(&0).then(|| "a password of the greatest length under each RC4 lock".to_string());
+        numbers.chain(reports).chain(by_standard).chain(forecasts).chain(padded).chain(scratches).chain(longest).collect()
     }
 }
 

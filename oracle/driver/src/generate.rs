@@ -2,7 +2,7 @@
 
 use crate::lock::{filepass, put_record, CryptoApi, Keys, Lock};
 use crate::paper::{self, records, BOF, BOUND_SHEET, FILEPASS, LOOK_CAP, SEVEN};
-use crate::port::{PASSWORD_MAX_LEN, SCRATCH_LEN};
+use crate::port::{LONG_SCRATCH_LEN, PASSWORD_MAX_LEN, SCRATCH_LEN};
 use crate::random::Random;
 
 /// One input, and where it comes from.
@@ -18,10 +18,20 @@ pub struct Case {
     pub plain: Option<Vec<u8>>,
 }
 
+/// One case of so many lends a long scratch. A prime, so that among the fixed cases it meets every turn of their inner loops.
+const LONG_SCRATCH_ONE_IN: usize = 11;
+
 impl Case {
+    /// A case that lends enough: how much follows from its index, and takes no random number.
     pub fn new(part: &'static str, index: u64, stream: Vec<u8>, password: &str) -> Self {
-        let (extra, output_len) = (index as usize % 3, stream.len() + index as usize % 5);
-        Self { part, index, stream, password: password.into(), scratch_len: SCRATCH_LEN + extra, output_len, plain: None }
+        let turn = index as usize;
+        let scratch_len = if turn % LONG_SCRATCH_ONE_IN == 0 {
+            LONG_SCRATCH_LEN + turn / LONG_SCRATCH_ONE_IN % (LONG_SCRATCH_LEN + 1)
+        } else {
+            SCRATCH_LEN + turn % 3
+        };
+        let output_len = stream.len() + turn % 5;
+        Self { part, index, stream, password: password.into(), scratch_len, output_len, plain: None }
     }
 }
 
@@ -90,7 +100,7 @@ fn random_remainder(random: &mut Random) -> Vec<u8> {
 }
 
 /// Characters that the XOR lock takes: 1 to 15, up to U+00FF.
-fn xor_takes(password: &str) -> bool {
+pub fn xor_takes(password: &str) -> bool {
     (1..=15).contains(&password.chars().count()) && password.chars().all(|c| c as u32 <= 0xFF)
 }
 
@@ -362,7 +372,7 @@ fn lend_badly(case: &mut Case, random: &mut Random) {
         case.password.splice(place..place, bad[..len].iter().copied());
     }
     if faults & 4 != 0 {
-        case.scratch_len = random.pick(&[0, 1, 1032, SCRATCH_LEN - 1]);
+        case.scratch_len = random.pick(&[0, 1, SCRATCH_LEN / 2, SCRATCH_LEN - 1]);
     }
     if faults & 8 != 0 && !case.stream.is_empty() {
         case.output_len = random.pick(&[0, case.stream.len() / 2, case.stream.len() - 1]);

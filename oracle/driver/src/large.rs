@@ -3,7 +3,7 @@
 use crate::lock::{filepass, put_record, CryptoApi, Lock};
 use crate::oracle;
 use crate::paper::{self, BOF, FILEPASS};
-use crate::port::{self, SCRATCH_LEN, STREAM_MAX_LEN};
+use crate::port::{self, LONG_SCRATCH_LEN, SCRATCH_LEN, STREAM_MAX_LEN};
 use crate::random::Random;
 use reference::Container;
 use std::time::Instant;
@@ -41,8 +41,9 @@ fn seconds<T>(call: impl FnOnce() -> T) -> (f64, T) {
     (start.elapsed().as_secs_f64(), value)
 }
 
-/// Books of the greatest length under each lock, without padding and with three bytes of it, compared byte for byte; and question 4 one byte
-/// further. The times are of one call each, as `best` takes them, the Rust's without the padding.
+/// Books of the greatest length under each lock, without padding and with three bytes of it, compared byte for byte, the padded ones with a long
+/// scratch; and question 4 one byte further, with question 3 before it. The times are of one call each, as `best` takes them, the Rust's without the
+/// padding.
 pub fn large() -> bool {
     let mut sound = true;
     for (name, lock) in locks() {
@@ -59,13 +60,14 @@ pub fn large() -> bool {
             let (rust, result) = seconds(|| container.decrypt(PASSWORD));
             let answer = oracle::answer(result, container, &stream[..records]).expect("an error maps to nothing");
             let answer = oracle::padded(answer, &stream).expect("it has a lock");
-            let mut scratch = vec![0x5A; SCRATCH_LEN];
+            let mut scratch = vec![0x5A; if padding > 0 { LONG_SCRATCH_LEN } else { SCRATCH_LEN }];
             let mut output = vec![0x5A; STREAM_MAX_LEN];
             let (port, (number, facts)) = seconds(|| port::open(&stream, PASSWORD.as_bytes(), &mut scratch, &mut output));
             let same = answer.number == 0 && number == 0 && facts[..7] == answer.facts && facts[7] == 0 && output == answer.plain;
             let foretold = port::forecast(&stream) == paper::forecast(&stream, 0, [0; 2]);
-            let wiped = scratch.iter().all(|byte| *byte == 0);
-            let all = own_as_expected && same && foretold && wiped;
+            let (wiped, untouched) = scratch.split_at(SCRATCH_LEN);
+            let left = wiped.iter().all(|byte| *byte == 0) && untouched.iter().all(|byte| *byte == 0x5A);
+            let all = own_as_expected && same && foretold && left;
             sound &= all;
             println!(
                 "{name}\t{} bytes{}\t{} records\t{}\tport {port:.2} s\tRust {rust:.2} s",
@@ -76,9 +78,12 @@ pub fn large() -> bool {
             );
             drop(answer);
             stream.push(0);
+            scratch.fill(0x5A);
+            let (less, _) = port::open(&stream, PASSWORD.as_bytes(), &mut scratch[..SCRATCH_LEN - 1], &mut output);
             let (number, facts) = port::open(&stream, PASSWORD.as_bytes(), &mut scratch, &mut output);
-            sound &= (number, facts) == (4, [0; 8]) && port::forecast(&stream) == (4, [0; 8]);
-            println!("{name}\t{} bytes\tport {number}", stream.len());
+            sound &= less == 3 && (number, facts) == (4, [0; 8]) && port::forecast(&stream) == (4, [0; 8]);
+            sound &= scratch.iter().all(|byte| *byte == 0x5A);
+            println!("{name}\t{} bytes\tport {number}, and {less} with less scratch", stream.len());
         }
     }
     sound

@@ -1,6 +1,6 @@
 //! What document 01's words say of a stream where the Rust gives no value: the number of records, the lock and its key bits,
-//! the flags of questions 18 to 20, and questions 1 to 5. And what document 02's words say where the Rust says otherwise, or nothing: the key size
-//! for 0, what opening takes, and the padding.
+//! the flags of questions 18 to 20, and questions 1 to 5. And what document 02's words say where the Rust says otherwise, or nothing: the scratch
+//! that question 3 asks for, the key size for 0, what opening takes, and the padding.
 
 use crate::port::{PASSWORD_MAX_LEN, SCRATCH_LEN, STREAM_MAX_LEN};
 

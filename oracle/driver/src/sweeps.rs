@@ -1,10 +1,10 @@
-//! The fixed cases, which every run starts with: every short stream over a small alphabet, sweeps over small books, books around Look's cap, and
-//! padded books.
+//! The fixed cases, which every run starts with: every short stream over a small alphabet, sweeps over small books, passwords of every length, books
+//! around Look's cap, and padded books.
 
-use crate::generate::{Case, ALPHABET};
+use crate::generate::{xor_takes, Case, ALPHABET};
 use crate::lock::{filepass, put_record, CryptoApi, Lock};
 use crate::paper::{records, BOF, BOUND_SHEET, FILEPASS, LOOK_CAP};
-use crate::port::{PASSWORD_MAX_LEN, SCRATCH_LEN};
+use crate::port::{LONG_SCRATCH_LEN, PASSWORD_MAX_LEN, SCRATCH_LEN};
 use crate::random::Random;
 
 pub fn all(give: &mut dyn FnMut(Case)) {
@@ -13,6 +13,7 @@ pub fn all(give: &mut dyn FnMut(Case)) {
     fields(give);
     several_faults(give);
     lendings(give);
+    texts(give);
     around_cap(give);
     padded(give);
     padded_blocks(give);
@@ -205,39 +206,101 @@ const UTF8_BOUNDS: [u8; 22] = [
     0x00, 0x7F, 0x80, 0x8F, 0x90, 0x9F, 0xA0, 0xBF, 0xC0, 0xC1, 0xC2, 0xDF, 0xE0, 0xE1, 0xEC, 0xED, 0xEE, 0xEF, 0xF0, 0xF3, 0xF4, 0xF5,
 ];
 
-/// Questions 1 to 3 and 5: every password of one or two bytes, those of three and four bytes at RFC 3629's bounds, passwords around the
-/// greatest length, and every scratch and output around what is needed, also several at once.
+/// None, too little, as much as is needed, more, and around and beyond what is long.
+#[rustfmt::skip]
+const SCRATCH_LENS: [usize; 10] = [
+    0, 1, SCRATCH_LEN - 1, SCRATCH_LEN, SCRATCH_LEN + 1, 2 * SCRATCH_LEN,
+    LONG_SCRATCH_LEN - 1, LONG_SCRATCH_LEN, LONG_SCRATCH_LEN + 1, 2 * LONG_SCRATCH_LEN,
+];
+
+/// Questions 1 to 3 and 5: every password of one or two bytes, and those of three and four bytes at RFC 3629's bounds; under each family, passwords
+/// around the greatest length, every scratch of the list, and every output up to more than is needed, also several at once.
 fn lendings(give: &mut dyn FnMut(Case)) {
-    let (stream, right) = small_books(&mut Random::new(0, 0)).swap_remove(0);
+    let books = small_books(&mut Random::new(0, 0));
     let mut index = 0;
-    let mut next = |password: Vec<u8>, scratch_len: usize, output_len: usize| {
-        let case = Case::new("lent", index, stream.clone(), "");
+    let mut next = |stream: &[u8], password: Vec<u8>, scratch_len: usize, output_len: usize| {
+        let case = Case::new("lent", index, stream.to_vec(), "");
         give(Case { password, scratch_len, output_len, ..case });
         index += 1;
     };
+    let stream = &books[0].0;
     for first in 0..=255 {
-        next(vec![first], SCRATCH_LEN, stream.len());
+        next(stream, vec![first], SCRATCH_LEN, stream.len());
         for second in 0..=255 {
-            next(vec![first, second], SCRATCH_LEN, stream.len());
+            next(stream, vec![first, second], SCRATCH_LEN, stream.len());
         }
     }
     let bounds = UTF8_BOUNDS.len();
     for len in [3, 4] {
         for number in 0..bounds.pow(len) {
             let password = (0..len).map(|k| UTF8_BOUNDS[number / bounds.pow(k) % bounds]).collect();
-            next(password, SCRATCH_LEN, stream.len());
+            next(stream, password, SCRATCH_LEN, stream.len());
         }
     }
     let long = "x".repeat(PASSWORD_MAX_LEN);
-    let passwords = [right.into(), long.clone(), long.clone() + "x", long.clone() + "\u{E9}"].map(String::into_bytes);
     let cut = [long.as_bytes(), &[0xC3]].concat();
-    for password in passwords.into_iter().chain([vec![0xC3], cut]) {
-        for scratch_len in [0, 1, SCRATCH_LEN - 1, SCRATCH_LEN, SCRATCH_LEN + 1, 2 * SCRATCH_LEN] {
-            for output_len in 0..stream.len() + 4 {
-                next(password.clone(), scratch_len, output_len);
+    // one book of each family
+    for (stream, right) in [&books[0], &books[2], &books[3]] {
+        let passwords = [right.to_string(), long.clone(), long.clone() + "x", long.clone() + "\u{E9}"].map(String::into_bytes);
+        for password in passwords.into_iter().chain([vec![0xC3], cut.clone()]) {
+            for scratch_len in SCRATCH_LENS {
+                for output_len in 0..stream.len() + 4 {
+                    next(stream, password.clone(), scratch_len, output_len);
+                }
             }
         }
     }
+}
+
+/// Under each family, and CryptoAPI with 40 bits too: passwords of every length there is, of characters of one, two, three and four bytes, and of
+/// letters with one of four bytes behind them; and each with its last character changed. The longest of each also with every scratch of the list.
+fn texts(give: &mut dyn FnMut(Case)) {
+    // the bytes of a character in UTF-8, the first such character, how many there are, and what is added
+    const KINDS: [(usize, u32, u32, &str); 5] =
+        [(1, 0x21, 94, ""), (2, 0x80, 0x780, ""), (3, 0x800, 0xD000, ""), (4, 0x10000, 0x100000, ""), (1, 0x21, 94, "\u{1D11E}")];
+    const BOOK_LEN: usize = 160;
+    let random = &mut Random::new(0, 8);
+    let mut index = 0;
+    let api = |key_size| Lock::CryptoApi(CryptoApi::plain(key_size, 0x0C));
+    for lock in [Lock::Xor, Lock::Office97, api(128), api(40)] {
+        for (width, first, room, added) in KINDS {
+            let most = (PASSWORD_MAX_LEN - added.len()) / width;
+            for count in 0..=most {
+                // by a step that has no divisor in common with any room, so that no two blocks of a text are equal
+                let characters = (0..count as u32).map(|k| char::from_u32(first + 1009 * k % room).unwrap());
+                let right: String = characters.chain(added.chars()).collect();
+                let mut wrong = right.clone();
+                let last = wrong.pop().map_or('x', |last| char::from_u32(last as u32 ^ 1).unwrap());
+                wrong.push(last);
+                let (stream, plain) = book_of_three(&lock, &right, BOOK_LEN, random);
+                for asked in [&right, &wrong] {
+                    let case = Case::new("text", index, stream.clone(), asked);
+                    let swept = if count == most { &SCRATCH_LENS[..] } else { &[] };
+                    for scratch_len in swept.iter().copied().chain([case.scratch_len]) {
+                        let opens = asked == &right && scratch_len >= SCRATCH_LEN && (!matches!(lock, Lock::Xor) || xor_takes(asked));
+                        give(Case { index, scratch_len, plain: opens.then(|| plain.clone()), ..case.clone() });
+                        index += 1;
+                    }
+                }
+            }
+        }
+    }
+}
+
+/// A book of this length under a lock, BOF, FILEPASS and one more record, and its plain stream.
+fn book_of_three(lock: &Lock, password: &str, len: usize, random: &mut Random) -> (Vec<u8>, Vec<u8>) {
+    let (body, keys) = filepass(lock, password, random);
+    let mut plain = Vec::new();
+    put_record(&mut plain, BOF, &[]);
+    put_record(&mut plain, FILEPASS, &body);
+    let zeroed = 4..plain.len();
+    let rest = random.bytes(len - plain.len() - 4);
+    put_record(&mut plain, 0x0042, &rest);
+    let mut stream = plain.clone();
+    keys.seal(&mut stream);
+    plain[zeroed.start..zeroed.start + 2].fill(0);
+    plain[zeroed.start + 4..zeroed.end].fill(0);
+    (stream, plain)
 }
 
 /// Books whose FILEPASS stands around Look's cap, at every offset from well before to just behind, after clear records only.
@@ -314,20 +377,10 @@ fn padded_blocks(give: &mut dyn FnMut(Case)) {
     for (lock, password) in small_locks() {
         for len in (1021..=1027).chain(2045..=2051) {
             for remainder in [&[][..], &[0], &[0, 0], &[0, 0, 0], &[1], &[0, 1], &[1, 0, 0]] {
-                let (body, keys) = filepass(&lock, password, random);
-                let mut plain = Vec::new();
-                put_record(&mut plain, BOF, &[]);
-                put_record(&mut plain, FILEPASS, &body);
-                let zeroed = 4..plain.len();
-                let rest = random.bytes(len - remainder.len() - plain.len() - 4);
-                put_record(&mut plain, 0x0042, &rest);
-                let mut stream = plain.clone();
-                keys.seal(&mut stream);
+                let (mut stream, mut plain) = book_of_three(&lock, password, len - remainder.len(), random);
                 for bytes in [&mut stream, &mut plain] {
                     bytes.extend(remainder);
                 }
-                plain[zeroed.start..zeroed.start + 2].fill(0);
-                plain[zeroed.start + 4..zeroed.end].fill(0);
                 for asked in [password, WRONG] {
                     let mut case = Case::new("padded block", index, stream.clone(), asked);
                     case.plain = (asked == password && remainder.iter().all(|byte| *byte == 0)).then(|| plain.clone());
@@ -339,14 +392,14 @@ fn padded_blocks(give: &mut dyn FnMut(Case)) {
     }
 }
 
-/// Questions 1 to 3 and 5 of padded books: passwords of each kind, and every scratch and output around what is needed.
+/// Questions 1 to 3 and 5 of padded books: passwords of each kind, every scratch of the list, and every output around what is needed.
 fn padded_lendings(give: &mut dyn FnMut(Case)) {
     let mut index = 0;
     for (stream, right) in small_books(&mut Random::new(0, 6)) {
         for padding in 1..=3 {
             let padded = [&stream[..], &vec![0; padding]].concat();
             for password in [right.into(), vec![b'x'; PASSWORD_MAX_LEN + 1], vec![0xC3], Vec::new()] {
-                for scratch_len in [0, SCRATCH_LEN - 1, SCRATCH_LEN] {
+                for scratch_len in SCRATCH_LENS {
                     for output_len in padded.len() - 5..padded.len() + 3 {
                         let case = Case::new("padded, lent", index, padded.clone(), "");
                         give(Case { password: password.clone(), scratch_len, output_len, ..case });
