@@ -1,6 +1,6 @@
-/* Times the key mixing, the walk, the forecast and Open of two trees' archives beside each other, in one run, on the same keys, streams and buffers: this tree's, and an earlier one's,
-   whose functions have before_ ahead of their names. Each figure is the best of several rounds in which the two take turns; what each computes is compared
-   with OpenSSL's keystream, and with the plain stream. */
+/* Times the key mixing, the walk, the forecast and Open, of long books and of a short one, of two trees' archives beside each other, in one run, on the same
+   keys, streams and buffers: this tree's, and an earlier one's, whose functions have before_ ahead of their names. Each figure is the best of several rounds in
+   which the two take turns; what each computes is compared with OpenSSL's keystream, and with the plain stream. */
 #include "../include/sheet.h"
 #include "stream.h"
 #include <stdbool.h>
@@ -17,7 +17,7 @@
 TREE()
 TREE(before_)
 
-enum { SIZE = 64 << 20, ROUNDS = 9, MIXINGS = 20000, BLOCK = 1024 };
+enum { SIZE = 64 << 20, ROUNDS = 9, MIXINGS = 20000, SHORT_BOOKS = 20000, BLOCK = 1024 };
 static const uint8_t key[16] = "a key of sixteen", other[16] = "sixteen of a key", zeros[2 * BLOCK];
 static uint8_t *out, scratch[4096]; /* more than either tree asks for */
 
@@ -113,7 +113,7 @@ static void opening(int lock, unsigned bits, size_t body)
             if (round == 0)
                 memset(out, 0, len);
             double t = now();
-            uint32_t answer = (who ? before_sheet_open : sheet_open)(stream, len, password, PASSWORD_LEN, scratch, sizeof scratch, out, len, facts);
+            uint32_t answer = (who ? before_sheet_open : sheet_open)(stream, len, password, password_len, scratch, sizeof scratch, out, len, facts);
             t = now() - t;
             if (answer) {
                 printf("%s: %s refuses, %u\n", name, who ? "the earlier tree" : "this tree", answer);
@@ -125,6 +125,31 @@ static void opening(int lock, unsigned bits, size_t body)
                 best[who] = t;
         }
     printf("%-42s before %5.0f MB/s   now %5.0f MB/s   %.3f times as fast\n", name, len / best[1] / 1e6, len / best[0] / 1e6, best[1] / best[0]);
+}
+
+/* a short book, opened many times over: what a call costs beside its bytes */
+static void short_book(const char *name, int lock)
+{
+    size_t len = make(lock, 128, 14, 300);
+    double best[2] = {1e9, 1e9};
+    uint64_t facts[8];
+    for (int round = 0; round < ROUNDS; round++)
+        for (int who = 0; who < 2; who++) {
+            uint32_t answers = 0;
+            memset(out, 0, len);
+            double t = now();
+            for (int n = 0; n < SHORT_BOOKS; n++)
+                answers |= (who ? before_sheet_open : sheet_open)(stream, len, password, password_len, scratch, sizeof scratch, out, len, facts);
+            t = now() - t;
+            if (answers) {
+                printf("%s: %s refuses\n", name, who ? "the earlier tree" : "this tree");
+                exit(1);
+            }
+            compare(name, who, plain, len);
+            if (t < best[who])
+                best[who] = t;
+        }
+    printf("Open, %s, a book of %-16zu before %5.0f ns    now %5.0f ns     %.3f times as fast\n", name, len, best[1] * 1e9 / SHORT_BOOKS, best[0] * 1e9 / SHORT_BOOKS, best[1] / best[0]);
 }
 
 int main(void)
@@ -145,5 +170,8 @@ int main(void)
     }
     opening(0, 0, 8224);
     opening(0, 0, 14);
+    short_book("XOR      ", 0);
+    short_book("1.1      ", 1);
+    short_book("CryptoAPI", 2);
     return 0;
 }

@@ -1,6 +1,6 @@
 /* Times sheet_open beside plain C with OpenSSL's RC4, SHA-1 and MD5, in one run, on the same streams: 64 MiB under each lock, in large and in small
    records. Each figure is the best of several rounds in which the candidates take turns, on the same buffers; what each opens to is compared first. Then finds
-   how deep into the stack a call goes, by painting it, and asks question 4 on both sides of its boundary. */
+   how deep into the stack a call goes, by painting it, with a short password and with one of 1,024 bytes, and asks question 4 on both sides of its boundary. */
 #define _GNU_SOURCE
 #include "../include/sheet.h"
 #include "stream.h"
@@ -22,11 +22,11 @@ static void by(int who, size_t len)
     uint64_t facts[8];
     switch (who) {
     case 0:
-        if (sheet_open(stream, len, password, PASSWORD_LEN, scratch, sizeof scratch, out, len, facts))
+        if (sheet_open(stream, len, password, password_len, scratch, sizeof scratch, out, len, facts))
             exit(1);
         break;
-    case 1: llvm_open(stream, len, password, PASSWORD_LEN, out); break;
-    default: gcc_open(stream, len, password, PASSWORD_LEN, out); break;
+    case 1: llvm_open(stream, len, password, password_len, out); break;
+    default: gcc_open(stream, len, password, password_len, out); break;
     }
 }
 
@@ -60,7 +60,7 @@ static void *call(void *who)
 {
     uint64_t facts[8];
     if (who)
-        answer = sheet_open(stream, called_len, password, PASSWORD_LEN, scratch, sizeof scratch, out, called_len, facts);
+        answer = sheet_open(stream, called_len, password, password_len, scratch, sizeof scratch, out, called_len, facts);
     return NULL;
 }
 
@@ -89,8 +89,8 @@ static void longest(void)
     uint8_t *in = mmap(NULL, most + 1, PROT_READ, MAP_PRIVATE | MAP_ANONYMOUS | MAP_NORESERVE, -1, 0);
     uint8_t *to = mmap(NULL, most + 1, PROT_READ | PROT_WRITE, MAP_PRIVATE | MAP_ANONYMOUS | MAP_NORESERVE, -1, 0);
     uint64_t facts[8];
-    uint32_t fits = sheet_open(in, most, password, PASSWORD_LEN, scratch, sizeof scratch, to, most, facts);
-    uint32_t over = sheet_open(in, most + 1, password, PASSWORD_LEN, scratch, sizeof scratch, to, most + 1, facts);
+    uint32_t fits = sheet_open(in, most, password, password_len, scratch, sizeof scratch, to, most, facts);
+    uint32_t over = sheet_open(in, most + 1, password, password_len, scratch, sizeof scratch, to, most + 1, facts);
     printf("Open, a stream of 1 GiB of zeros: refused, %u; of one byte more: refused, %u\n", fits, over);
     if (fits != 7 || over != 4)
         exit(1);
@@ -111,10 +111,23 @@ int main(void)
     }
     for (int lock = 0; lock < 3; lock++) {
         called_len = make(lock, 128, 14, 1 << 16);
-        size_t all = depth(stream), none = depth(NULL);
+        size_t none = depth(NULL), with_short = depth(stream) - none;
         if (answer)
             return 1;
-        printf("Open, %-35s %zu bytes of stack\n", locks[lock], all - none);
+        /* XOR takes 15 characters at the most, so there the longest password is tried on the same stream and refused */
+        uint8_t kept[PASSWORD_MAX + 1];
+        size_t kept_len = password_len;
+        memcpy(kept, password, sizeof kept);
+        for (password_len = 0; password_len < PASSWORD_MAX; password_len++)
+            password[password_len] = (uint8_t)('a' + password_len % 26);
+        if (lock)
+            called_len = make(lock, 128, 14, 1 << 16);
+        size_t with_longest = depth(stream) - none;
+        if (answer != (lock ? 0 : 27))
+            return 1;
+        memcpy(password, kept, sizeof kept);
+        password_len = kept_len;
+        printf("Open, %-35s %zu bytes of stack; with a password of 1,024 bytes %zu\n", locks[lock], with_short, with_longest);
     }
     longest();
     return 0;

@@ -8,26 +8,27 @@
 
 void gcc_xor_values(const uint8_t *password, size_t len, unsigned *key, unsigned *verifier, uint8_t array[16]);
 
-static const uint8_t password[] = "lift angle 50";
-enum { PASSWORD_LEN = sizeof password - 1 };
+enum { PASSWORD_MAX = 1024 };
+static uint8_t password[PASSWORD_MAX + 1] = "lift angle 50";
+static size_t password_len = 13;
 static uint8_t *plain, *stream;
 
 /* the key of a block, as document 01 writes it */
 static void key_of(int lock, uint32_t block, const uint8_t salt[16], uint8_t key[20])
 {
-    uint8_t wide[2 * PASSWORD_LEN + 16], text[20 * 16 + 64], number[4], *start = wide + 16;
+    uint8_t wide[2 * PASSWORD_MAX + 16], text[20 * 16 + 64], number[4], *start = wide + 16;
     memset(wide, 0, sizeof wide);
-    for (size_t i = 0; i < PASSWORD_LEN; i++)
+    for (size_t i = 0; i < password_len; i++)
         start[2 * i] = password[i];
     put(number, 4, block);
     if (lock == 2) {
         memcpy(wide, salt, 16);
-        SHA1(wide, sizeof wide, text);
+        SHA1(wide, 16 + 2 * password_len, text);
         memcpy(text + 20, number, 4);
         SHA1(text, 24, key);
     } else {
         uint8_t h[16];
-        MD5(start, 2 * PASSWORD_LEN, h);
+        MD5(start, 2 * password_len, h);
         for (int i = 0; i < 16; i++) {
             memcpy(text + 21 * i, h, 5);
             memcpy(text + 21 * i + 5, salt, 16);
@@ -54,7 +55,7 @@ static size_t make(int lock, unsigned bits, size_t body, size_t size)
     uint8_t *f = plain + at + 4;
     RC4_KEY state;
     if (lock == 0) {
-        gcc_xor_values(password, PASSWORD_LEN, &k, &v, array);
+        gcc_xor_values(password, password_len, &k, &v, array);
         put(f + 2, 2, k);
         put(f + 4, 2, v);
     } else {
