@@ -163,7 +163,7 @@ uint32_t sheet_forecast(const uint8_t *stream, size_t stream_len, uint64_t facts
  * other facts are 0. The lowest number that applies is given.
  *
  * On 1 to 5 the scratch is as it was; otherwise its first 64 bytes are zero afterwards, on success too, and the rest is as
- * it was, however long the scratch is: hosts that lend 2,064 bytes go on working.
+ * it was, however long the scratch is.
  *
  * What the password was made into (digests, keys, RC4 tables; under XOR its own bytes too) also stands in the call's
  * stack frames and in registers, of which no proof can speak once the call has returned. A host that minds should

@@ -6,7 +6,7 @@
  * The password comes from standard input, one line of UTF-8. Exit status: 0 opened, 1 refused, 2 not read.
  *
  * -z now has all functions bound at the start: bound at their first call, they would have the vector registers saved to the
- * stack, in which memcpy has left parts of what is to be wiped. */
+ * stack, in which parts of what is to be wiped are left. */
 #include <fcntl.h>
 #include <stdio.h>
 #include <unistd.h>

@@ -165,9 +165,10 @@ fn call(
 /// Overwrites what [`call`] can have left behind in registers and on the stack: the caller calls
 /// both at the same depth.
 ///
-/// The scratch is proved to end zero, but the digests, keys and RC4 tables that are made from the
-/// password, and under XOR the password itself, stand in the call's own stack frames too. The
-/// language of the proofs can't speak of the stack that a call leaves behind, so it is cleared here.
+/// The first [`SCRATCH_LEN`] bytes of the scratch, the only ones that password text goes through,
+/// are proved to end zero. But the digests, keys and RC4 tables that are made from the password, and
+/// under XOR the password itself, stand in the call's own stack frames. The language of the proofs
+/// can't speak of the stack that a call leaves behind, so it is cleared here.
 #[inline(never)]
 fn scrub() {
     clear_registers();
@@ -186,8 +187,8 @@ fn scrub() {
 
 /// Zeroes the registers that a function need not give back as they were.
 ///
-/// The C library's memcpy moves keys and tables through the vector registers and leaves them there.
-/// Whoever saves those registers later, as a signal does, would write them to the stack again.
+/// Parts of the keys and tables, and under XOR of the array, are left in the vector registers, by the
+/// C library's memcpy and by the call itself. Whoever saves those registers later, as a signal does, would write them to the stack again.
 fn clear_registers() {
     // SAFETY: the instructions are those of the features that were detected. They touch registers
     // alone, all of them said to be overwritten by `clobber_abi`.

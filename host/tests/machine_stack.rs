@@ -306,7 +306,7 @@ fn the_same_search_finds_secrets_where_nothing_is_scrubbed() {
         assert_eq!(number, 0);
         let names = found(&secrets(&book), &region);
         println!("{}: {names:?}", name(&book));
-        // Which registers memcpy uses depends on the machine, so nothing is expected of them.
+        // What is left in which registers depends on the machine, so nothing is expected of them.
         println!("in registers: {:?}", found(&secrets(&book), &vectors));
         let sort = |word: &str| names.iter().any(|name| name.starts_with(word));
         match book.kind {

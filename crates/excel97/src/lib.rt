@@ -1,6 +1,6 @@
 // Open: the plain stream of a protected workbook, from the Rust source's excel97.rs, with its names. The compound
-// file around the stream is left out, `book.clone()` is the output that the caller lends, and password text stands in
-// the lent scratch.
+// file around the stream is left out, `book.clone()` is the output that the caller lends, and under RC4 password text
+// goes through the lent scratch.
 ghost use mathlib.Core.Path.{_≡_};
 ghost use Prim.Native.Nat.{ℕ, _+_, _≤_};
 ghost use mathlib.Core.Bool.{true};
