@@ -4,3 +4,4 @@ pub mod Offsets
 pub mod Parts
 pub mod Table
 pub mod Written
+pub mod Xor
