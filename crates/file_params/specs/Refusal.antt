@@ -1,5 +1,5 @@
 -- The number and the two details that document 01 gives each refusal ("Open: the plain stream", its questions), and document 02 those that a request adds
--- (28 and 29: T-01); a detail that is not named is 0.
+-- (28 and 29: T-01; 30 to 32: T-07); a detail that is not named is 0.
 -- Assumes nothing.
 use Prim.Native.Nat.{ℕ}
 use Rattle.file_params.specs.declared.Refusal.{Refusal}
@@ -35,6 +35,9 @@ number (refusal.VerifierHashSize got) = 26
 number refusal.WrongPassword = 27
 number (refusal.BoundSheetStart offset) = 28
 number (refusal.BofEofUnpaired offset) = 29
+number refusal.ZeroRecordMissing = 30
+number (refusal.ZeroRecordLength len) = 31
+number refusal.XorPasswordUnfit = 32
 
 abbrev pub first : Refusal → ℕ
 first refusal.PasswordTooLong = 0
@@ -66,6 +69,9 @@ first (refusal.VerifierHashSize got) = got
 first refusal.WrongPassword = 0
 first (refusal.BoundSheetStart offset) = offset
 first (refusal.BofEofUnpaired offset) = offset
+first refusal.ZeroRecordMissing = 0
+first (refusal.ZeroRecordLength len) = len
+first refusal.XorPasswordUnfit = 0
 
 abbrev pub second : Refusal → ℕ
 second refusal.PasswordTooLong = 0
@@ -97,3 +103,6 @@ second (refusal.VerifierHashSize got) = 0
 second refusal.WrongPassword = 0
 second (refusal.BoundSheetStart offset) = 0
 second (refusal.BofEofUnpaired offset) = 0
+second refusal.ZeroRecordMissing = 0
+second (refusal.ZeroRecordLength len) = 0
+second refusal.XorPasswordUnfit = 0

@@ -1,6 +1,6 @@
 // The refusals: from the Rust source's file_params.rs, whose field and problem together name one, and from its
 // error's own cases. Document 01's questions 1 to 27, in its order; 1 to 3 and 5 are of what the caller lends, which
-// the source takes by type. 28 and 29 are of document 02's request T-01.
+// the source takes by type. 28 and 29 are of document 02's request T-01, 30 to 32 of T-07.
 ghost use mathlib.Core.Path.{_≡_};
 ghost use Rattle.file_params.specs.Refusal.{number, first, second};
 
@@ -35,6 +35,9 @@ pub enum Refusal {
     WrongPassword,
     BoundSheetStart(usize),
     BofEofUnpaired(usize),
+    ZeroRecordMissing,
+    ZeroRecordLength(u16),
+    XorPasswordUnfit,
 }
 
 // The two details of a refusal.
@@ -77,6 +80,9 @@ pub fn number(refusal: Refusal) -> u32
         Refusal::WrongPassword => 27,
         Refusal::BoundSheetStart(_) => 28,
         Refusal::BofEofUnpaired(_) => 29,
+        Refusal::ZeroRecordMissing => 30,
+        Refusal::ZeroRecordLength(_) => 31,
+        Refusal::XorPasswordUnfit => 32,
     }
 }
 
@@ -121,5 +127,8 @@ pub fn details_of(refusal: Refusal) -> Details
         Refusal::WrongPassword => both(0, 0),
         Refusal::BoundSheetStart(offset) => both(offset as u64, 0),
         Refusal::BofEofUnpaired(offset) => both(offset as u64, 0),
+        Refusal::ZeroRecordMissing => both(0, 0),
+        Refusal::ZeroRecordLength(len) => both(len as u64, 0),
+        Refusal::XorPasswordUnfit => both(0, 0),
     }
 }

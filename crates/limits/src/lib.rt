@@ -42,9 +42,16 @@ pub fn size_fits(size: u32) -> bool
     (RC4_ENCRYPTION_HEADER_SIZE_MIN <= bytes) & (bytes <= RC4_ENCRYPTION_HEADER_SIZE_MAX)
 }
 
-// A key size in bits that is taken: document 01's question 23.
+// A key size in bits that a lock states: what document 02's T-07 writes.
+pub fn key_size_stated(bits: u32) -> bool
+    ensures { λ r. ⌜ r ≡ (within 40 128 bits && eqb (bits % 8) 0) ⌝ }
+{
+    (RC4_KEY_BITS_MIN <= bits) & (bits <= RC4_KEY_BITS_MAX) & (bits % 8 == 0)
+}
+
+// A key size in bits that is taken: document 01's question 23, which takes 0 too.
 pub fn key_size_fits(bits: u32) -> bool
     ensures { λ r. ⌜ r ≡ (eqb bits 0 || (within 40 128 bits && eqb (bits % 8) 0)) ⌝ }
 {
-    (bits == 0) | ((RC4_KEY_BITS_MIN <= bits) & (bits <= RC4_KEY_BITS_MAX) & (bits % 8 == 0))
+    (bits == 0) | key_size_stated(bits)
 }

@@ -1,274 +1,141 @@
+-- `file_params::number` meets its contract: each refusal has the number of its case.
+-- Assumes nothing.
 use borrow.Author.Needs.{needs}
 use Rattle.file_params.proofs.number.Statement.{statement}
 use Rattle.file_params.proofs.number.Tie as tie
-use Rattle.file_params.proofs.number.Reads as reads
-use Rattle.file_params.proofs.number.Lts as lts
 
--- src/lib.rt:51:37
-enum-told : tie.Need-enum-told
-enum-told c = search needs
-
--- src/lib.rt:52:39
-enum-told-2 : tie.Need-enum-told-2
-enum-told-2 c = search needs
-
--- src/lib.rt:53:34
-enum-told-3 : tie.Need-enum-told-3
-enum-told-3 c = search needs
-
--- src/lib.rt:54:36
-enum-told-4 : tie.Need-enum-told-4
-enum-told-4 c = search needs
-
--- src/lib.rt:55:33
-enum-told-5 : tie.Need-enum-told-5
-enum-told-5 c = search needs
-
--- src/lib.rt:56:45
-enum-told-6 : tie.Need-enum-told-6
-enum-told-6 c = search needs
-
--- src/lib.rt:57:40
-enum-told-7 : tie.Need-enum-told-7
-enum-told-7 c = search needs
-
--- src/lib.rt:58:34
-enum-told-8 : tie.Need-enum-told-8
-enum-told-8 c = search needs
-
--- src/lib.rt:59:43
-enum-told-9 : tie.Need-enum-told-9
-enum-told-9 c = search needs
-
--- src/lib.rt:60:45
-enum-told-10 : tie.Need-enum-told-10
-enum-told-10 c = search needs
-
--- src/lib.rt:61:47
-enum-told-11 : tie.Need-enum-told-11
-enum-told-11 c = search needs
-
--- src/lib.rt:62:55
-enum-told-12 : tie.Need-enum-told-12
-enum-told-12 c = search needs
-
--- src/lib.rt:63:56
-enum-told-13 : tie.Need-enum-told-13
-enum-told-13 c = search needs
-
--- src/lib.rt:64:51
-enum-told-14 : tie.Need-enum-told-14
-enum-told-14 c = search needs
-
--- src/lib.rt:65:48
-enum-told-15 : tie.Need-enum-told-15
-enum-told-15 c = search needs
-
--- src/lib.rt:66:55
-enum-told-16 : tie.Need-enum-told-16
-enum-told-16 c = search needs
-
--- src/lib.rt:67:59
-enum-told-17 : tie.Need-enum-told-17
-enum-told-17 c = search needs
-
--- src/lib.rt:68:37
-enum-told-18 : tie.Need-enum-told-18
-enum-told-18 c = search needs
-
--- src/lib.rt:69:32
-enum-told-19 : tie.Need-enum-told-19
-enum-told-19 c = search needs
-
--- src/lib.rt:70:43
-enum-told-20 : tie.Need-enum-told-20
-enum-told-20 c = search needs
-
--- src/lib.rt:71:41
-enum-told-21 : tie.Need-enum-told-21
-enum-told-21 c = search needs
-
--- src/lib.rt:72:45
-enum-told-22 : tie.Need-enum-told-22
-enum-told-22 c = search needs
-
--- src/lib.rt:73:48
-enum-told-23 : tie.Need-enum-told-23
-enum-told-23 c = search needs
-
--- src/lib.rt:74:52
-enum-told-24 : tie.Need-enum-told-24
-enum-told-24 c = search needs
-
--- src/lib.rt:75:41
-enum-told-25 : tie.Need-enum-told-25
-enum-told-25 c = search needs
-
--- src/lib.rt:76:41
-enum-told-26 : tie.Need-enum-told-26
-enum-told-26 c = search needs
-
--- src/lib.rt:77:35
-enum-told-27 : tie.Need-enum-told-27
-enum-told-27 c = search needs
-
--- src/lib.rt:78:40
-enum-told-28 : tie.Need-enum-told-28
-enum-told-28 c = search needs
-
--- src/lib.rt:79:39
-enum-told-29 : tie.Need-enum-told-29
-enum-told-29 c = search needs
-
--- src/lib.rt:47:1
 returns : tie.Need-returns
 returns c = rw (c .enum-told .given .1)
 
--- src/lib.rt:47:1
 returns-2 : tie.Need-returns-2
 returns-2 c = rw (c .enum-told2 .given .1)
 
--- src/lib.rt:47:1
 returns-3 : tie.Need-returns-3
 returns-3 c = rw (c .enum-told3 .given .1)
 
--- src/lib.rt:47:1
 returns-4 : tie.Need-returns-4
 returns-4 c = rw (c .enum-told4 .given .1)
 
--- src/lib.rt:47:1
 returns-5 : tie.Need-returns-5
 returns-5 c = rw (c .enum-told5 .given .1)
 
--- src/lib.rt:47:1
 returns-6 : tie.Need-returns-6
 returns-6 c = rw (c .enum-told6 .given .1)
 
--- src/lib.rt:47:1
 returns-7 : tie.Need-returns-7
 returns-7 c = rw (c .enum-told7 .given .1)
 
--- src/lib.rt:47:1
 returns-8 : tie.Need-returns-8
 returns-8 c = rw (c .enum-told8 .given .1)
 
--- src/lib.rt:47:1
 returns-9 : tie.Need-returns-9
 returns-9 c = rw (c .enum-told9 .given .1)
 
--- src/lib.rt:47:1
 returns-10 : tie.Need-returns-10
 returns-10 c = rw (c .enum-told10 .given .1)
 
--- src/lib.rt:47:1
 returns-11 : tie.Need-returns-11
 returns-11 c = rw (c .enum-told11 .given .1)
 
--- src/lib.rt:47:1
 returns-12 : tie.Need-returns-12
 returns-12 c = rw (c .enum-told12 .given .1)
 
--- src/lib.rt:47:1
 returns-13 : tie.Need-returns-13
 returns-13 c = rw (c .enum-told13 .given .1)
 
--- src/lib.rt:47:1
 returns-14 : tie.Need-returns-14
 returns-14 c = rw (c .enum-told14 .given .1)
 
--- src/lib.rt:47:1
 returns-15 : tie.Need-returns-15
 returns-15 c = rw (c .enum-told15 .given .1)
 
--- src/lib.rt:47:1
 returns-16 : tie.Need-returns-16
 returns-16 c = rw (c .enum-told16 .given .1)
 
--- src/lib.rt:47:1
 returns-17 : tie.Need-returns-17
 returns-17 c = rw (c .enum-told17 .given .1)
 
--- src/lib.rt:47:1
 returns-18 : tie.Need-returns-18
 returns-18 c = rw (c .enum-told18 .given .1)
 
--- src/lib.rt:47:1
 returns-19 : tie.Need-returns-19
 returns-19 c = rw (c .enum-told19 .given .1)
 
--- src/lib.rt:47:1
 returns-20 : tie.Need-returns-20
 returns-20 c = rw (c .enum-told20 .given .1)
 
--- src/lib.rt:47:1
 returns-21 : tie.Need-returns-21
 returns-21 c = rw (c .enum-told21 .given .1)
 
--- src/lib.rt:47:1
 returns-22 : tie.Need-returns-22
 returns-22 c = rw (c .enum-told22 .given .1)
 
--- src/lib.rt:47:1
 returns-23 : tie.Need-returns-23
 returns-23 c = rw (c .enum-told23 .given .1)
 
--- src/lib.rt:47:1
 returns-24 : tie.Need-returns-24
 returns-24 c = rw (c .enum-told24 .given .1)
 
--- src/lib.rt:47:1
 returns-25 : tie.Need-returns-25
 returns-25 c = rw (c .enum-told25 .given .1)
 
--- src/lib.rt:47:1
 returns-26 : tie.Need-returns-26
 returns-26 c = rw (c .enum-told26 .given .1)
 
--- src/lib.rt:47:1
 returns-27 : tie.Need-returns-27
 returns-27 c = rw (c .enum-told27 .given .1)
 
--- src/lib.rt:47:1
 returns-28 : tie.Need-returns-28
 returns-28 c = rw (c .enum-told28 .given .1)
 
--- src/lib.rt:47:1
 returns-29 : tie.Need-returns-29
 returns-29 c = rw (c .enum-told29 .given .1)
+
+returns-30 : tie.Need-returns-30
+returns-30 c = rw (c .enum-told30 .given .1)
+
+returns-31 : tie.Need-returns-31
+returns-31 c = rw (c .enum-told31 .given .1)
+
+returns-32 : tie.Need-returns-32
+returns-32 c = rw (c .enum-told32 .given .1)
 
 pub number-spec : {M : Type 1} → statement M
 number-spec =
     tie.close
     (tie.spec
-    enum-told
-    enum-told-2
-    enum-told-3
-    enum-told-4
-    enum-told-5
-    enum-told-6
-    enum-told-7
-    enum-told-8
-    enum-told-9
-    enum-told-10
-    enum-told-11
-    enum-told-12
-    enum-told-13
-    enum-told-14
-    enum-told-15
-    enum-told-16
-    enum-told-17
-    enum-told-18
-    enum-told-19
-    enum-told-20
-    enum-told-21
-    enum-told-22
-    enum-told-23
-    enum-told-24
-    enum-told-25
-    enum-told-26
-    enum-told-27
-    enum-told-28
-    enum-told-29
+    (λ c. search needs)
+    (λ c. search needs)
+    (λ c. search needs)
+    (λ c. search needs)
+    (λ c. search needs)
+    (λ c. search needs)
+    (λ c. search needs)
+    (λ c. search needs)
+    (λ c. search needs)
+    (λ c. search needs)
+    (λ c. search needs)
+    (λ c. search needs)
+    (λ c. search needs)
+    (λ c. search needs)
+    (λ c. search needs)
+    (λ c. search needs)
+    (λ c. search needs)
+    (λ c. search needs)
+    (λ c. search needs)
+    (λ c. search needs)
+    (λ c. search needs)
+    (λ c. search needs)
+    (λ c. search needs)
+    (λ c. search needs)
+    (λ c. search needs)
+    (λ c. search needs)
+    (λ c. search needs)
+    (λ c. search needs)
+    (λ c. search needs)
+    (λ c. search needs)
+    (λ c. search needs)
+    (λ c. search needs)
     returns
     returns-2
     returns-3
@@ -297,4 +164,7 @@ number-spec =
     returns-26
     returns-27
     returns-28
-    returns-29)
+    returns-29
+    returns-30
+    returns-31
+    returns-32)
