@@ -7,11 +7,12 @@ use mathlib.Core.Option.{Option, none, some}
 use lib.Dec.{eqb}
 use lib.ListN.{length}
 use Rattle.laws.specs.Choice.{pick}
-use Rattle.binary_office.specs.Walk.{BiffRecord, walk, clearLen}
+use Rattle.binary_office.specs.Walk.{BiffRecord, Walk, walk, clearLen}
 use Rattle.file_params.specs.declared.Refusal.{Refusal}
 use Rattle.file_params.specs.Questions.{Question, asked, streamFits, ofStream, filepass, filepassBody, typeOf, structureOf}
 use Rattle.block_keys.specs.BlockKeys.{startedBlocks}
 use Rattle.block_keys.specs.Lock.{lockOf}
+use Rattle.survey.specs.declared.Counts.{Counts}
 use Rattle.survey.specs.declared.Scheme.{Scheme}
 use Rattle.survey.specs.declared.Scheme.the-variants as scheme
 use Rattle.survey.specs.declared.Book.{Book}
@@ -25,6 +26,10 @@ encipheredLen id len = len - clearLen id len
 unfoldable pub encipheredBytes : List BiffRecord → ℕ
 encipheredBytes [] = 0
 encipheredBytes (r ∷ rs) = encipheredLen (r .id) (r .len) + encipheredBytes rs
+
+-- what a walk counts
+abbrev pub countsOf : Walk → Counts
+countsOf w = record { end = w .ends; records = length (w .records); enciphered = encipheredBytes (w .records) }
 
 -- "Keys are 0 under XOR; under RC4 they are one for the check and one for each started 1,024 bytes."
 unfoldable pub blockKeys : (body : List ℕ) → (bytes : ℕ) → ℕ

@@ -6,7 +6,7 @@ ghost use Rattle.laws.specs.Choice.{pick};
 ghost use Rattle.binary_office.specs.Walk.{walk};
 ghost use Rattle.file_params.specs.Questions.{asked, inOrder, startsBof, lock};
 ghost use Rattle.survey.specs.Checked.{checkedOf};
-ghost use Rattle.survey.specs.Survey.{encipheredLen, schemeBy, surveyed};
+ghost use Rattle.survey.specs.Survey.{encipheredLen, countsOf, schemeBy, surveyed};
 ghost use Rattle.survey.specs.Steps.{foundOn, otherOn, tallyOf, readOf, lockedBy};
 
 // Whether a group of questions was passed.
@@ -63,6 +63,14 @@ struct Tally {
 enum Read {
     Scheme(Scheme),
     Refused(file_params::Refusal),
+}
+
+// What a walk of the whole stream counts: how it ends, how many records there are, and how many of their bytes are
+// enciphered.
+pub struct Counts {
+    pub end: binary_office::WalkEnd,
+    pub records: usize,
+    pub enciphered: usize,
 }
 
 // Whether the first record is BOF.
@@ -181,6 +189,21 @@ fn tally_records(stream: &[u8]) -> Tally
                 at = at + 4 + (len as usize);
             }
         }
+    }
+}
+
+// Counts the records of a stream and their enciphered bytes.
+pub fn count_records(stream: &[u8]) -> Counts
+    ensures { λ r. ⌜ r ≡ countsOf (walk (now (stream .entry))) ⌝ }
+{
+    let tally = tally_records(stream);
+    let end = tally.end;
+    let records = tally.records;
+    let enciphered = tally.enciphered;
+    Counts {
+        end,
+        records,
+        enciphered,
     }
 }
 
