@@ -5,7 +5,8 @@ ghost use Rattle.laws.specs.Choice.{pick};
 ghost use Rattle.rc4.specs.Rc4.{made, enciphered, encipheredHalves};
 ghost use Rattle.sha1.specs.Sha1.{sha1};
 ghost use Rattle.md5.specs.Md5.{md5};
-ghost use Rattle.xor_obfuscation.specs.Xor.{Deciphers};
+ghost use Rattle.xor_obfuscation.specs.Xor.{Transforms};
+ghost use Rattle.xor_obfuscation.specs.declared.Way.the-variants.{Decrypt};
 ghost use Rattle.binary_office.specs.Walk.{walk};
 ghost use lib.ListN.{length};
 use rc4::Keystream;
@@ -61,9 +62,9 @@ pub extern "C" fn bench_rc4_halves(key: &[u8], other: &[u8], src: &[u8], dst: &m
 // The bytes of src, deciphered from an index of the array on, into dst.
 #[no_mangle]
 pub extern "C" fn bench_xor(array: &[u8; 16], index: usize, src: &[u8], dst: &mut [u8])
-    ensures { λ _. ⌜ Deciphers (now (array .entry)) index (now (src .entry)) (now (dst .entry)) (now (dst .exit)) ⌝ }
+    ensures { λ _. ⌜ Transforms Decrypt (now (array .entry)) index (now (src .entry)) (now (dst .entry)) (now (dst .exit)) ⌝ }
 {
-    xor_obfuscation::decrypt(array, index, src, dst);
+    xor_obfuscation::transform(xor_obfuscation::Way::Decrypt, array, index, src, dst);
 }
 
 // How many records a stream has, by the walk alone.

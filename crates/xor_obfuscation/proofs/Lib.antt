@@ -1,3 +1,4 @@
 pub mod Derived
 pub mod Doubling
+pub mod Inverse
 pub mod Pieces

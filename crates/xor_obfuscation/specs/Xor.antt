@@ -8,7 +8,9 @@ use lib.Dec.{eqb, leb}
 use lib.ListN.{length, getD, drop}
 use Rattle.laws.specs.Choice.{pick, within}
 use Rattle.laws.specs.Offsets.{tabulate}
-use Rattle.word.specs.Word.{rotr}
+use Rattle.word.specs.Word.{rotl, rotr}
+use Rattle.xor_obfuscation.specs.declared.Way.{Way}
+use Rattle.xor_obfuscation.specs.declared.Way.the-variants.{Decrypt, Encrypt}
 use Rattle.xor_obfuscation.specs.declared.XorKey.{XorKey}
 use Rattle.xor_obfuscation.specs.declared.XorKey.the-variants.{Key, NoKey}
 
@@ -87,14 +89,33 @@ unfoldable pub xorArray : List ℕ → ℕ → List ℕ
 unfolding tabulate
 xorArray p key = tabulate (xorArrayAt p key) 16
 
--- 2.3.7.3: a byte is exclusive-or'd with the array, then rotated right by five bits; the first uses the array's index, each later one the next, modulo 16
+-- 2.3.7.3, DecryptData_Method1: a byte is exclusive-or'd with the array, then rotated right by five bits; the first uses the array's index, each later one the
+-- next, modulo 16
 abbrev pub deciphered : List ℕ → ℕ → ℕ → ℕ → ℕ
 deciphered array index o x = rotr 8 5 (bitXor x (getD array ((index + o) % 16) 0))
 
--- the byte of s at an offset
-abbrev pub decipheredAt : List ℕ → ℕ → List ℕ → ℕ → ℕ
-decipheredAt array index s o = deciphered array index o (getD s o 0)
+-- 2.3.7.3, EncryptData_Method1: a byte is rotated left by five bits, then exclusive-or'd with the array, at the same places of it
+abbrev pub enciphered : List ℕ → ℕ → ℕ → ℕ → ℕ
+enciphered array index o x = bitXor (rotl 8 5 x) (getD array ((index + o) % 16) 0)
 
--- what deciphering s into d leaves: as many bytes as both have room for
-pub record Deciphers (array : List ℕ) (index : ℕ) (s d d′ : List ℕ) : Type 0 where
-  pub bytes : d′ ≡ tabulate (λ (o : ℕ). deciphered array index o (getD s o 0)) (min (length s) (length d)) ++ drop (min (length s) (length d)) d
+-- a byte put through the one or the other
+abbrev pub transformed : Way → List ℕ → ℕ → ℕ → ℕ → ℕ
+transformed Decrypt array index o x = deciphered array index o x
+transformed Encrypt array index o x = enciphered array index o x
+
+-- the byte of s at an offset
+abbrev pub transformedAt : Way → List ℕ → ℕ → List ℕ → ℕ → ℕ
+transformedAt way array index s o = transformed way array index o (getD s o 0)
+
+-- the same for a byte and the array's byte for it
+abbrev pub ciphered : Way → ℕ → ℕ → ℕ
+ciphered Decrypt x k = rotr 8 5 (bitXor x k)
+ciphered Encrypt x k = bitXor (rotl 8 5 x) k
+
+-- the array twice over: from each of its places on there are 16 bytes of it in order
+abbrev pub twiceOver : List ℕ → List ℕ
+twiceOver array = tabulate (λ (n : ℕ). getD array (n % 16) 0) 32
+
+-- what putting s through into d leaves: as many bytes as both have room for
+pub record Transforms (way : Way) (array : List ℕ) (index : ℕ) (s d d′ : List ℕ) : Type 0 where
+  pub bytes : d′ ≡ tabulate (λ (o : ℕ). transformed way array index o (getD s o 0)) (min (length s) (length d)) ++ drop (min (length s) (length d)) d

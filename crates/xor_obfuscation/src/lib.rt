@@ -1,7 +1,7 @@
 // XOR obfuscation, Method 1 (MS-OFFCRYPTO 2.3.7.1 to 2.3.7.3): from the Rust source's
 // xor_obfuscation.rs, with its names and tables.
 ghost use mathlib.Core.Path.{_≡_};
-ghost use mathlib.Core.List.{_++_};
+ghost use mathlib.Core.List.{List, _++_};
 ghost use Prim.Native.Nat.{ℕ, _+_, _-_, _*_, _/_, _%_, _^_, _≤_, _<_, min};
 ghost use lib.Bits.{bitXor};
 ghost use lib.Dec.{eqb};
@@ -9,8 +9,8 @@ ghost use lib.ListN.{length, getD, drop};
 ghost use Rattle.laws.specs.Choice.{pick};
 ghost use Rattle.laws.specs.Offsets.{tabulate};
 ghost use Rattle.laws.proofs.Written.{Written};
-ghost use Rattle.word.specs.Word.{rotr};
-ghost use Rattle.xor_obfuscation.specs.Xor.{padArray, initialCode, xorMatrix, verifierStep, passwordVerifier, charBits, keyOf, xorArray, decipheredAt, Deciphers};
+ghost use Rattle.xor_obfuscation.specs.Xor.{padArray, initialCode, xorMatrix, verifierStep, passwordVerifier, charBits, keyOf, xorArray};
+ghost use Rattle.xor_obfuscation.specs.Xor.{ciphered, twiceOver, transformedAt, Transforms};
 
 // PadArray, InitialCode and XorMatrix of MS-OFFCRYPTO 2.3.7.2.
 pub const PAD_ARRAY: [u8; 15] = [
@@ -163,6 +163,12 @@ pub enum XorKey {
     NoKey,
 }
 
+// Which way data is put through the array.
+pub enum Way {
+    Decrypt,
+    Encrypt,
+}
+
 fn least(a: usize, b: usize) -> usize
     ensures { λ r. ⌜ r ≡ min a b ⌝ }
 {
@@ -297,34 +303,70 @@ pub fn xor_array(password: &[u8], key: u16) -> [u8; 16]
 
 // A byte deciphered with a byte of the array.
 fn deciphered_byte(c: u8, key: u8) -> u8
-    ensures { λ r. ⌜ r ≡ rotr 8 5 (bitXor c key) ⌝ }
+    ensures { λ r. ⌜ r ≡ ciphered Way.Decrypt c key ⌝ }
 {
     let x = c ^ key;
     word::rotate_right_u8(x, 5)
 }
 
+// A byte enciphered with a byte of the array.
+fn enciphered_byte(c: u8, key: u8) -> u8
+    ensures { λ r. ⌜ r ≡ ciphered Way.Encrypt c key ⌝ }
+{
+    let x = word::rotate_left_u8(c, 5);
+    x ^ key
+}
+
+// A byte put through a byte of the array.
+fn transformed_byte(way: Way, c: u8, key: u8) -> u8
+    ensures { λ r. ⌜ r ≡ ciphered way c key ⌝ }
+{
+    match way {
+        Way::Decrypt => deciphered_byte(c, key),
+        Way::Encrypt => enciphered_byte(c, key),
+    }
+}
+
 // The array twice over: from any index on there are 16 bytes of it in order.
 fn doubled(array: &[u8; 16]) -> [u8; 32]
-    ensures { λ r. ⌜ r ≡ tabulate (λ (n : ℕ). getD (now (array .entry)) (n % 16) 0) 32 ⌝ }
+    ensures { λ r. ⌜ r ≡ twiceOver (now (array .entry)) ⌝ }
 {
     let mut twice = [0u8; 32];
     let mut i = 0;
+    while i < 16 {
+        twice[i] = array[i];
+        i += 1;
+    }
     while i < 32 {
-        twice[i] = array[i % 16];
+        twice[i] = array[i - 16];
         i += 1;
     }
     twice
 }
 
 // The 16 bytes of src from a place on, deciphered from an index of the array on.
-fn piece(twice: &[u8; 32], start: usize, src: &[u8], at: usize) -> [u8; 16]
+fn deciphered_piece(twice: &[u8; 32], start: usize, src: &[u8], at: usize) -> [u8; 16]
     requires { ⌜ (start < 16) × (at + 16 ≤ length (now src)) ⌝ }
-    ensures { λ r. ⌜ r ≡ tabulate (λ (i : ℕ). rotr 8 5 (bitXor (getD (now (src .entry)) (at + i) 0) (getD (now (twice .entry)) (start + i) 0))) 16 ⌝ }
+    ensures { λ r. ⌜ r ≡ tabulate (λ (i : ℕ). ciphered Way.Decrypt (getD (now (src .entry)) (at + i) 0) (getD (now (twice .entry)) (start + i) 0)) 16 ⌝ }
 {
     let mut out = [0u8; 16];
     let mut i = 0;
     while i < 16 {
         out[i] = deciphered_byte(src[at + i], twice[start + i]);
+        i += 1;
+    }
+    out
+}
+
+// The 16 bytes of src from a place on, enciphered from an index of the array on.
+fn enciphered_piece(twice: &[u8; 32], start: usize, src: &[u8], at: usize) -> [u8; 16]
+    requires { ⌜ (start < 16) × (at + 16 ≤ length (now src)) ⌝ }
+    ensures { λ r. ⌜ r ≡ tabulate (λ (i : ℕ). ciphered Way.Encrypt (getD (now (src .entry)) (at + i) 0) (getD (now (twice .entry)) (start + i) 0)) 16 ⌝ }
+{
+    let mut out = [0u8; 16];
+    let mut i = 0;
+    while i < 16 {
+        out[i] = enciphered_byte(src[at + i], twice[start + i]);
         i += 1;
     }
     out
@@ -342,47 +384,84 @@ fn put(bytes: [u8; 16], dst: &mut [u8], at: usize)
     }
 }
 
-// The first n bytes, at least 16, in pieces of 16. The last piece ends at n, and where n is no multiple
-// of 16 it writes some bytes of the one before it once more.
-fn decrypt_long(array: &[u8; 16], index: usize, src: &[u8], dst: &mut [u8], n: usize)
+// The first n bytes, at least 16, deciphered in pieces of 16 by the array twice over. The last piece ends at n, and
+// where n is no multiple of 16 it writes some bytes of the one before it once more.
+fn deciphered_pieces(twice: &[u8; 32], index: usize, src: &[u8], dst: &mut [u8], n: usize)
     requires { ⌜ (16 ≤ n) × (n ≤ length (now src)) × (n ≤ length (now dst)) ⌝ }
-    ensures { λ _. ⌜ Written (decipheredAt (now (array .entry)) index (now (src .entry))) 0 n (now (dst .entry)) (now (dst .exit)) ⌝ }
+    ensures { λ _. ⌜ ((array : List ℕ) → now (twice .entry) ≡ twiceOver array
+        → Written (transformedAt Way.Decrypt array index (now (src .entry))) 0 n (now (dst .entry)) (now (dst .exit))) ⌝ }
 {
-    let twice = doubled(array);
     let first = index % 16;
     let last = n - 16;
     let mut at = 0;
     while at < last {
-        put(piece(&twice, first, src, at), dst, at);
+        put(deciphered_piece(twice, first, src, at), dst, at);
         at += 16;
     }
-    put(piece(&twice, (first + n) % 16, src, last), dst, last);
+    put(
+        deciphered_piece(twice, (first + n) % 16, src, last),
+        dst,
+        last,
+    );
+}
+
+// The same, enciphered. The last piece comes first: where both ways end alike, LLVM merges their ends and works
+// there byte by byte.
+fn enciphered_pieces(twice: &[u8; 32], index: usize, src: &[u8], dst: &mut [u8], n: usize)
+    requires { ⌜ (16 ≤ n) × (n ≤ length (now src)) × (n ≤ length (now dst)) ⌝ }
+    ensures { λ _. ⌜ ((array : List ℕ) → now (twice .entry) ≡ twiceOver array
+        → Written (transformedAt Way.Encrypt array index (now (src .entry))) 0 n (now (dst .entry)) (now (dst .exit))) ⌝ }
+{
+    let first = index % 16;
+    let last = n - 16;
+    put(
+        enciphered_piece(twice, (first + n) % 16, src, last),
+        dst,
+        last,
+    );
+    let mut at = 0;
+    while at < last {
+        put(enciphered_piece(twice, first, src, at), dst, at);
+        at += 16;
+    }
+}
+
+// The first n bytes, at least 16. Each way has a loop of its own, in which the count of the rotation is constant.
+fn transform_long(way: Way, array: &[u8; 16], index: usize, src: &[u8], dst: &mut [u8], n: usize)
+    requires { ⌜ (16 ≤ n) × (n ≤ length (now src)) × (n ≤ length (now dst)) ⌝ }
+    ensures { λ _. ⌜ Written (transformedAt way (now (array .entry)) index (now (src .entry))) 0 n (now (dst .entry)) (now (dst .exit)) ⌝ }
+{
+    let twice = doubled(array);
+    match way {
+        Way::Decrypt => deciphered_pieces(&twice, index, src, dst, n),
+        Way::Encrypt => enciphered_pieces(&twice, index, src, dst, n),
+    }
 }
 
 // The first n bytes, one by one.
-fn decrypt_short(array: &[u8; 16], index: usize, src: &[u8], dst: &mut [u8], n: usize)
+fn transform_short(way: Way, array: &[u8; 16], index: usize, src: &[u8], dst: &mut [u8], n: usize)
     requires { ⌜ (n ≤ length (now src)) × (n ≤ length (now dst)) ⌝ }
-    ensures { λ _. ⌜ Written (decipheredAt (now (array .entry)) index (now (src .entry))) 0 n (now (dst .entry)) (now (dst .exit)) ⌝ }
+    ensures { λ _. ⌜ Written (transformedAt way (now (array .entry)) index (now (src .entry))) 0 n (now (dst .entry)) (now (dst .exit)) ⌝ }
 {
     let start = index % 16;
     let mut k = 0;
     while k < n {
         let c = src[k];
-        let x = deciphered_byte(c, array[(start + k) % 16]);
+        let x = transformed_byte(way, c, array[(start + k) % 16]);
         dst[k] = x;
         k += 1;
     }
 }
 
-// DecryptData_Method1: the bytes of src, deciphered from an index of the array on, into dst, as many
-// as both have room for.
-pub fn decrypt(array: &[u8; 16], index: usize, src: &[u8], dst: &mut [u8])
-    ensures { λ _. ⌜ Deciphers (now (array .entry)) index (now (src .entry)) (now (dst .entry)) (now (dst .exit)) ⌝ }
+// DecryptData_Method1 or EncryptData_Method1: the bytes of src, put through the array from an index on, into
+// dst, as many as both have room for.
+pub fn transform(way: Way, array: &[u8; 16], index: usize, src: &[u8], dst: &mut [u8])
+    ensures { λ _. ⌜ Transforms way (now (array .entry)) index (now (src .entry)) (now (dst .entry)) (now (dst .exit)) ⌝ }
 {
     let n = least(src.len(), dst.len());
     if n < 16 {
-        decrypt_short(array, index, src, dst, n);
+        transform_short(way, array, index, src, dst, n);
         return;
     }
-    decrypt_long(array, index, src, dst, n);
+    transform_long(way, array, index, src, dst, n);
 }

@@ -1,22 +1,22 @@
--- `xor_obfuscation::piece` meets its contract: after i turns the first i bytes are deciphered.
+-- `xor_obfuscation::deciphered_piece` meets its contract: after i turns the first i bytes are deciphered.
 -- Assumes nothing.
 use borrow.Author.Needs.{needs}
 use mathlib.Core.Path.{_≡_, refl, sym, _∙_}
 use native.Mathlib.Omega.{arith}
 use native.Mathlib.Nat.{le-of-eq}
 use Prim.Native.Nat.{ℕ, _+_, _≤_, _-_}
-use lib.Bits.{bitXor}
 use lib.ListN.{length, getD, take}
 use lib.Seq.{take-all}
 use Rattle.laws.specs.Offsets.{tabulate}
 use Rattle.laws.proofs.Offsets.{tabulate-store}
-use Rattle.word.specs.Word.{rotr}
-use Rattle.xor_obfuscation.proofs.piece.Statement.{statement}
-use Rattle.xor_obfuscation.proofs.piece.Tie as tie
+use Rattle.xor_obfuscation.specs.declared.Way.the-variants.{Decrypt}
+use Rattle.xor_obfuscation.specs.Xor.{ciphered}
+use Rattle.xor_obfuscation.proofs.deciphered_piece.Statement.{statement}
+use Rattle.xor_obfuscation.proofs.deciphered_piece.Tie as tie
 
 abbrev Inv-loop : tie.InvT-loop
 Inv-loop twice start src at out₀ i₀ out i = (i ≤ 16) × (length out ≡ 16)
-    × (take i out ≡ tabulate (λ (n : ℕ). rotr 8 5 (bitXor (getD src (at + n) 0) (getD twice (start + n) 0))) i)
+    × (take i out ≡ tabulate (λ (n : ℕ). ciphered Decrypt (getD src (at + n) 0) (getD twice (start + n) 0)) i)
 
 abbrev μ-loop : tie.MeasureT-loop
 μ-loop twice start src at out₀ i₀ out i = 16 - i
@@ -31,7 +31,7 @@ loop-again c =
     let entry = at-loop .before .before in
     let l = at-loop .loop in
     let a = entry .args in
-    let f : ℕ → ℕ = λ (n : ℕ). rotr 8 5 (bitXor (getD (a .src .now) (a .at + n) 0) (getD (a .twice .now) (a .start + n) 0)) in
+    let f : ℕ → ℕ = λ (n : ℕ). ciphered Decrypt (getD (a .src .now) (a .at + n) 0) (getD (a .twice .now) (a .start + n) 0) in
     (search needs, search needs, tabulate-store f (l .out) (l .i) (c .deciphered-byte .result) (omega arith) (l .inv .2) (c .deciphered-byte .ensures))
 
 returns : tie.Need-returns Inv-loop μ-loop
@@ -40,8 +40,8 @@ returns c =
     let e : l .i ≡ 16 = omega arith in
     sym (take-all 16 (l .out) (le-of-eq (l .inv .1))) ∙ (rw e at (l .inv .2))
 
-pub piece-spec : {M : Type 1} → statement M
-piece-spec =
+pub deciphered-piece-spec : {M : Type 1} → statement M
+deciphered-piece-spec =
     tie.close
     (tie.spec
     Inv-loop
