@@ -31,8 +31,7 @@ use Rattle.block_keys.specs.declared.Kind.{Kind}
 use Rattle.block_keys.specs.declared.Kind.the-variants.{Office97, CryptoApi}
 use Rattle.block_keys.specs.declared.Schedule.{Schedule}
 use Rattle.block_keys.specs.declared.Scheduled.{Scheduled}
-use Rattle.block_keys.specs.declared.Rc4Lock.{Rc4Lock}
-use Rattle.block_keys.specs.BlockKeys.{scheduleOf, keyBy, blockKey, agree, under, digestBy, digestLen, verified}
+use Rattle.block_keys.specs.BlockKeys.{scheduleOf, keyBy, blockKey, agree, under, digestBy, digestLen, verified, encryptedVerifierHash}
 use Rattle.block_keys.specs.Lock.{Schedules}
 
 -- a digest that is made from another, and none from none
@@ -46,13 +45,13 @@ module _ (digest password scratch bytes scratch′ : List ℕ) (size : ℕ) (ok 
       record { told = sym t; digested = g ∙ ap f (d .digested ∙ taken digest (replicate size 0) t) ∙ stop (replicate n 0) t; wiped = d .wiped }
 
 -- the schedule of a family
-module _ (lock : Rc4Lock) (salt password scratch scratch′ bytes : List ℕ) (ok : Bool) (r : Scheduled) where
-  pub schedules-97 : lock .kind ≡ Office97 → Digests (office97.truncated (md5Of password) salt ++ replicate 15 0) 20 password scratch ok bytes scratch′
-      → r ≡ record { ok = ok; schedule = record { kind = Office97; «key_bits» = lock .«key_bits»; digest = bytes } } → Schedules lock salt password scratch r scratch′
+module _ (k : Kind) (bits : ℕ) (salt password scratch scratch′ bytes : List ℕ) (ok : Bool) (r : Scheduled) where
+  pub schedules-97 : k ≡ Office97 → Digests (office97.truncated (md5Of password) salt ++ replicate 15 0) 20 password scratch ok bytes scratch′
+      → r ≡ record { ok = ok; schedule = record { kind = Office97; «key_bits» = bits; digest = bytes } } → Schedules k bits salt password scratch r scratch′
   schedules-97 e d g = rw g (record { kind = sym e; bits = refl; digest = rw e d })
 
-  pub schedules-api : lock .kind ≡ CryptoApi → Digests (sha1Of salt password) 20 password scratch ok bytes scratch′
-      → r ≡ record { ok = ok; schedule = record { kind = CryptoApi; «key_bits» = lock .«key_bits»; digest = bytes } } → Schedules lock salt password scratch r scratch′
+  pub schedules-api : k ≡ CryptoApi → Digests (sha1Of salt password) 20 password scratch ok bytes scratch′
+      → r ≡ record { ok = ok; schedule = record { kind = CryptoApi; «key_bits» = bits; digest = bytes } } → Schedules k bits salt password scratch r scratch′
   schedules-api e d g = rw g (record { kind = sym e; bits = refl; digest = rw e d })
 
 -- the key of a block
@@ -103,7 +102,7 @@ unfolding tabulate
 tabulate-same f g zero h = refl
 tabulate-same f g (suc n) h = rw (tabulate-same f g n h, h n)
 
-agree-same : (a b c : List ℕ) (n : ℕ) → ((i : ℕ) → i < n → getD b i 0 ≡ getD c i 0) → agree a b n ≡ agree a c n
+pub agree-same : (a b c : List ℕ) (n : ℕ) → ((i : ℕ) → i < n → getD b i 0 ≡ getD c i 0) → agree a b n ≡ agree a c n
 unfolding agree
 agree-same a b c zero h = refl
 agree-same a b c (suc n) h = rw (agree-same a b c n (λ i k. h i (omega arith)), h n (omega arith))
@@ -116,43 +115,55 @@ module _ (k : Kind) (plain digest : List ℕ) where
   pub digest-by-api : k ≡ CryptoApi → digest ≡ sha1 plain → digest ≡ digestBy k plain
   digest-by-api e g = rw e g
 
-module _ (s : Schedule) (verifier hash : List ℕ) (hv : length verifier ≡ 16) (hh : length hash ≡ 20) where
-  abbrev key : List ℕ
-  key = blockKey s 0
-
-  -- a keystream over a list into zeros of its length, from a position on
-  ran : (from n : ℕ) (m d d′ : List ℕ) (k k′ : Keystream) → k ≡ after (keyed key) from → length m ≡ n → length d ≡ n → Applies k m d k′ d′ → d′ ≡ under key from m n
-  ran from n m d d′ k k′ e h g a =
-      let l : min (length m) (length d) ≡ n = rw (h, g) (least n) in
-      let r : drop n d ≡ [] = rw (← g) (none d) in
+-- a keystream from a position on, over a list into one that has room for it
+module _ (key : List ℕ) (from n : ℕ) (m d d′ : List ℕ) (k k′ : Keystream) (e : k ≡ after (keyed key) from) (h : length m ≡ n) (a : Applies k m d k′ d′) where
+  ran : n ≤ length d → d′ ≡ under key from m n ++ drop n d
+  ran g =
+      let l : min (length m) (length d) ≡ n = rw h (least (length d) g) in
       a .bytes
-      ∙ rw (l, r, append-nil (tabulate (λ (i : ℕ). bitXor (getD m i 0) (byteFrom k i)) n))
+      ∙ rw l
+      (ap (λ (l : List ℕ). l ++ drop n d)
       (tabulate-same (λ (i : ℕ). bitXor (getD m i 0) (byteFrom k i)) (λ (i : ℕ). bitXor (getD m i 0) (keystreamByte key (from + i))) n
-      (λ i. ap (bitXor (getD m i 0)) (ap (λ (q : Keystream). byteFrom q i) e ∙ byte-resumed (keyed key) from i)))
+      (λ i. ap (bitXor (getD m i 0)) (ap (λ (q : Keystream). byteFrom q i) e ∙ byte-resumed (keyed key) from i))))
     where
-      least : (n : ℕ) → min n n ≡ n
-      least n = omega arith
+      least : (j : ℕ) → n ≤ j → min n j ≡ n
+      least j g = omega arith
 
+  ran-whole : length d ≡ n → d′ ≡ under key from m n
+  ran-whole g = ran (omega arith) ∙ rw (← g) (ap (λ (l : List ℕ). under key from m (length d) ++ l) (none d) ∙ append-nil (under key from m (length d)))
+    where
       none : (xs : List ℕ) → drop (length xs) xs ≡ []
       none [] = refl
       none (x ∷ xs) = none xs
 
-  -- the two plain parts, by one keystream unbroken
-  module _ (k k′ k″ : Keystream) (zeros zeros′ plain plain′ : List ℕ) (e : k ≡ keyed key) (a : Applies k verifier zeros k′ plain)
-      (b : Applies k′ hash zeros′ k″ plain′) (z : length zeros ≡ 16) (z′ : length zeros′ ≡ 20) where
-    first-part : plain ≡ under key 0 verifier 16
-    first-part = ran 0 16 verifier zeros plain k k′ (e ∙ after-none (keyed key)) hv z a
+-- block 0's keystream over a verifier, and then on from there
+module _ (s : Schedule) (verifier : List ℕ) (hv : length verifier ≡ 16) (k k′ : Keystream) (zeros first : List ℕ) (e : k ≡ keyed (blockKey s 0))
+    (a : Applies k verifier zeros k′ first) (z : length zeros ≡ 16) where
+  abbrev key : List ℕ
+  key = blockKey s 0
 
-    second-part : plain′ ≡ under key 16 hash 20
-    second-part = ran 16 20 hash zeros′ plain′ k′ k″ (a .keystream ∙ rw (hv, z, e)) hh z′ b
+  pub first-part : first ≡ under key 0 verifier 16
+  first-part = ran-whole key 0 16 verifier zeros first k k′ (e ∙ after-none (keyed key)) hv a z
 
-    pub checked : (n : ℕ) (digest : List ℕ) (r : Bool) → n ≡ digestLen (s .kind) → n ≤ 20 → digest ≡ digestBy (s .kind) plain → r ≡ agree digest plain′ n
-        → r ≡ verified s verifier hash
-    unfolding verified
-    checked n digest r en le ed er =
-        er
-        ∙ agree-same digest plain′ (under key 16 hash n) n (λ i h. ap (λ (l : List ℕ). getD l i 0) second-part ∙ at 20 i (omega arith) ∙ sym (at n i h))
-        ∙ rw (ed, first-part, en)
-      where
-        at : (m i : ℕ) → i < m → getD (under key 16 hash m) i 0 ≡ bitXor (getD hash i 0) (keystreamByte key (16 + i))
-        at m i h = getD-tabulate (λ (j : ℕ). bitXor (getD hash j 0) (keystreamByte key (16 + j))) m i 0 h
+  then : k′ ≡ after (keyed key) 16
+  then = a .keystream ∙ rw (hv, z, e)
+
+  pub checked : (hash zeros′ plain : List ℕ) (k″ : Keystream) → Applies k′ hash zeros′ k″ plain → length hash ≡ 20 → length zeros′ ≡ 20
+      → (n : ℕ) (digest : List ℕ) (r : Bool) → n ≡ digestLen (s .kind) → n ≤ 20 → digest ≡ digestBy (s .kind) first → r ≡ agree digest plain n
+      → r ≡ verified s verifier hash
+  unfolding verified
+  checked hash zeros′ plain k″ b hh z′ n digest r en le ed er =
+      er
+      ∙ agree-same digest plain (under key 16 hash n) n (λ i h. ap (λ (l : List ℕ). getD l i 0) second-part ∙ at 20 i (omega arith) ∙ sym (at n i h))
+      ∙ rw (ed, first-part, en)
+    where
+      second-part : plain ≡ under key 16 hash 20
+      second-part = ran-whole key 16 20 hash zeros′ plain k′ k″ then hh b z′
+
+      at : (m i : ℕ) → i < m → getD (under key 16 hash m) i 0 ≡ bitXor (getD hash i 0) (keystreamByte key (16 + i))
+      at m i h = getD-tabulate (λ (j : ℕ). bitXor (getD hash j 0) (keystreamByte key (16 + j))) m i 0 h
+
+  pub digest-enciphered : (n : ℕ) (digest zeros′ hash : List ℕ) (k″ : Keystream) → Applies k′ digest zeros′ k″ hash → n ≡ digestLen (s .kind) → length digest ≡ n
+      → digest ≡ digestBy (s .kind) verifier → n ≤ length zeros′ → drop n zeros′ ≡ replicate (20 - n) 0
+      → hash ≡ encryptedVerifierHash s verifier ++ replicate (20 - digestLen (s .kind)) 0
+  digest-enciphered n digest zeros′ hash k″ b en l ed room rest = ran key 16 n digest zeros′ hash k′ k″ then l b room ∙ rw (rest, ed, en)

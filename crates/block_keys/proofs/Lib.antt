@@ -1,4 +1,6 @@
 pub mod Answers
 pub mod Blocks
+pub mod Encrypted
 pub mod Parts
+pub mod Schedules
 pub mod Schemes

@@ -1,5 +1,5 @@
--- The keys of a stream's blocks, the keystream that they make, and the password check: MS-OFFCRYPTO 2.3.5.2, 2.3.5.6, 2.3.6.2 and 2.3.6.4, MS-XLS 2.2.10,
--- as document 01 has them ("The three locks").
+-- The keys of a stream's blocks, the keystream that they make, the password check and what it is made from: MS-OFFCRYPTO 2.3.5.2, 2.3.5.5, 2.3.5.6, 2.3.6.2,
+-- 2.3.6.3 and 2.3.6.4, MS-XLS 2.2.10, as document 01 has them ("The three locks").
 -- Assumes nothing.
 use mathlib.Core.Path.{_≡_}
 use Prim.Native.Nat.{ℕ, zero, suc, _+_, _-_, _/_, _%_, min}
@@ -73,3 +73,10 @@ under key from s n = tabulate (λ (i : ℕ). bitXor (getD s i 0) (keystreamByte 
 unfoldable pub verified : Schedule → (verifier hash : List ℕ) → Bool
 verified s verifier hash =
     agree (digestBy (s .kind) (under (blockKey s 0) 0 verifier 16)) (under (blockKey s 0) 16 hash (digestLen (s .kind))) (digestLen (s .kind))
+
+-- 2.3.5.5 and 2.3.6.3: block 0's keystream runs over the verifier, then over the plain verifier's digest, unbroken
+abbrev pub encryptedVerifier : Schedule → (verifier : List ℕ) → List ℕ
+encryptedVerifier s verifier = under (blockKey s 0) 0 verifier 16
+
+abbrev pub encryptedVerifierHash : Schedule → (verifier : List ℕ) → List ℕ
+encryptedVerifierHash s verifier = under (blockKey s 0) 16 (digestBy (s .kind) verifier) (digestLen (s .kind))

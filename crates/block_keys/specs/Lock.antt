@@ -14,6 +14,7 @@ use Rattle.file_params.specs.declared.Refusal.{Refusal}
 use Rattle.file_params.specs.Questions.{asked, rc4, isOffice97, headerFlags, verifierAt}
 use Rattle.password_digest.specs.Digest.{Digests}
 use Rattle.rc4_cryptoapi.specs.Parse.{keyBits}
+use Rattle.block_keys.specs.declared.Kind.{Kind}
 use Rattle.block_keys.specs.declared.Kind.the-variants.{Office97, CryptoApi}
 use Rattle.block_keys.specs.declared.Rc4Lock.{Rc4Lock}
 use Rattle.block_keys.specs.declared.Scheduled.{Scheduled}
@@ -54,8 +55,8 @@ part structure at n = tabulate (λ (i : ℕ). getD structure (at + i) 0) n
 abbrev pub saltOf : List ℕ → List ℕ
 saltOf structure = part structure (lockOf structure .salt) 16
 
--- what making a schedule answers and leaves: the digest as `Digests` has it, beside the lock's family and key size
-pub record Schedules (lock : Rc4Lock) (salt password scratch : List ℕ) (r : Scheduled) (scratch′ : List ℕ) : Type 0 where
-  pub kind : r .schedule .kind ≡ lock .kind
-  pub bits : r .schedule .«key_bits» ≡ lock .«key_bits»
-  pub digest : Digests (scheduleOf (lock .kind) (lock .«key_bits») salt password .digest) 20 password scratch (r .ok) (r .schedule .digest) scratch′
+-- what making a schedule answers and leaves: the digest as `Digests` has it, beside the family and the key size
+pub record Schedules (k : Kind) (key-bits : ℕ) (salt password scratch : List ℕ) (r : Scheduled) (scratch′ : List ℕ) : Type 0 where
+  pub kind : r .schedule .kind ≡ k
+  pub bits : r .schedule .«key_bits» ≡ key-bits
+  pub digest : Digests (scheduleOf k key-bits salt password .digest) 20 password scratch (r .ok) (r .schedule .digest) scratch′

@@ -14,7 +14,7 @@ ghost use Rattle.rc4.specs.Rc4.{keyed, keystreamByte};
 ghost use Rattle.file_params.specs.Questions.{asked, office97, cryptoApi};
 ghost use Rattle.password_digest.specs.Digest.{sha1Of, md5Of, Digests};
 ghost use Rattle.rc4_office97.specs.Keys.{truncated};
-ghost use Rattle.block_keys.specs.BlockKeys.{blockKey, decipheredAt, startedBlocks, Decrypts, agree, verified};
+ghost use Rattle.block_keys.specs.BlockKeys.{blockKey, decipheredAt, startedBlocks, Decrypts, agree, digestLen, verified, encryptedVerifier, encryptedVerifierHash};
 ghost use Rattle.block_keys.specs.Lock.{office97Lock, cryptoApiLock, unless, part, schemeOf, Schedules};
 
 // The family of an RC4 lock.
@@ -228,6 +228,28 @@ fn with_digest(kind: Kind, key_bits: u32, digest: Digest) -> Scheduled
     }
 }
 
+// The schedule of a family, a key size, a salt and a password.
+pub fn make_schedule(
+    kind: Kind,
+    key_bits: u32,
+    salt: [u8; 16],
+    password: &[u8],
+    scratch: &mut [u8],
+) -> Scheduled
+    ensures { λ r. ⌜ Schedules kind «key_bits» salt (now (password .entry)) (now (scratch .entry)) r (now (scratch .exit)) ⌝ }
+{
+    match kind {
+        Kind::Office97 => {
+            let digest = digest_97(salt, password, scratch);
+            with_digest(Kind::Office97, key_bits, digest)
+        }
+        Kind::CryptoApi => {
+            let digest = digest_api(salt, password, scratch);
+            with_digest(Kind::CryptoApi, key_bits, digest)
+        }
+    }
+}
+
 // The schedule of a lock and a password.
 pub fn schedule_of(
     structure: &[u8],
@@ -235,21 +257,12 @@ pub fn schedule_of(
     password: &[u8],
     scratch: &mut [u8],
 ) -> Scheduled
-    ensures { λ r. ⌜ Schedules lock (part (now (structure .entry)) (lock .salt) 16) (now (password .entry)) (now (scratch .entry)) r (now (scratch .exit)) ⌝ }
+    ensures { λ r. ⌜ Schedules (lock .kind) (lock .«key_bits») (part (now (structure .entry)) (lock .salt) 16) (now (password .entry)) (now (scratch .entry)) r (now (scratch .exit)) ⌝ }
 {
     let mut salt = [0u8; 16];
     copy_part(structure, lock.salt, &mut salt);
     let kind = lock.kind;
-    match kind {
-        Kind::Office97 => {
-            let digest = digest_97(salt, password, scratch);
-            with_digest(Kind::Office97, lock.key_bits, digest)
-        }
-        Kind::CryptoApi => {
-            let digest = digest_api(salt, password, scratch);
-            with_digest(Kind::CryptoApi, lock.key_bits, digest)
-        }
-    }
+    make_schedule(kind, lock.key_bits, salt, password, scratch)
 }
 
 // The key of a block.
@@ -310,6 +323,41 @@ pub fn verify(structure: &[u8], lock: Rc4Lock, schedule: Schedule) -> bool
     let mut hash = [0u8; 20];
     copy_part(structure, lock.hash, &mut hash);
     verify_password(schedule, verifier, hash)
+}
+
+// What a structure holds of a verifier: a digest of 16 bytes has zeros behind it.
+pub struct EncryptedVerifier {
+    pub verifier: [u8; 16],
+    pub hash: [u8; 20],
+}
+
+// Enciphers a verifier and then its digest with block 0's keystream, unbroken.
+pub fn encrypt_verifier(schedule: Schedule, verifier: [u8; 16]) -> EncryptedVerifier
+    ensures { λ r. ⌜ (r .verifier ≡ encryptedVerifier schedule verifier) × (r .hash ≡ encryptedVerifierHash schedule verifier ++ replicate (20 - digestLen (schedule .kind)) 0) ⌝ }
+{
+    let first = keystream(schedule, 0);
+    let mut enciphered = [0u8; 16];
+    let then = first.apply(&verifier, &mut enciphered);
+    let mut hash = [0u8; 20];
+    let kind = schedule.kind;
+    match kind {
+        Kind::Office97 => {
+            let md5_digest = md5::digest(&verifier);
+            then.apply(&md5_digest, &mut hash);
+            EncryptedVerifier {
+                verifier: enciphered,
+                hash,
+            }
+        }
+        Kind::CryptoApi => {
+            let sha1_digest = sha1::digest(&verifier);
+            then.apply(&sha1_digest, &mut hash);
+            EncryptedVerifier {
+                verifier: enciphered,
+                hash,
+            }
+        }
+    }
 }
 
 fn least(a: usize, b: usize) -> usize

@@ -25,8 +25,8 @@ returns c =
     let start = at-keystream .before in
     let args = start .args in
     let e = at-enum-told .enum-told .given .1 in
-    checked (args .schedule) (args .t2) (args .t3) (sixteen start) (twenty start) _ _ _ _ _ _ _ (at-keystream .keystream .ensures) (at-apply .apply .ensures)
-    (at-apply2 .apply2 .ensures) refl refl 16 _ _
+    checked (args .schedule) (args .t2) (sixteen start) _ _ _ _ (at-keystream .keystream .ensures) (at-apply .apply .ensures) refl
+    (args .t3) _ _ _ (at-apply2 .apply2 .ensures) (twenty start) refl 16 _ _
     (sym (ap digestLen e)) (omega arith) (digest-by-97 (args .schedule .kind) _ _ e (at-digest .digest .ensures)) (c .same .ensures)
 
 returns-2 : tie.Need-returns-2
@@ -39,8 +39,8 @@ returns-2 c =
     let start = at-keystream .before in
     let args = start .args in
     let e = at-enum-told2 .enum-told2 .given .1 in
-    checked (args .schedule) (args .t2) (args .t3) (sixteen start) (twenty start) _ _ _ _ _ _ _ (at-keystream .keystream .ensures) (at-apply .apply .ensures)
-    (at-apply2 .apply2 .ensures) refl refl 20 _ _
+    checked (args .schedule) (args .t2) (sixteen start) _ _ _ _ (at-keystream .keystream .ensures) (at-apply .apply .ensures) refl
+    (args .t3) _ _ _ (at-apply2 .apply2 .ensures) (twenty start) refl 20 _ _
     (sym (ap digestLen e)) (omega arith) (digest-by-api (args .schedule .kind) _ _ e (at-digest3 .digest3 .ensures)) (c .same2 .ensures)
 
 pub verify-password-spec : {M : Type 1} → statement M
