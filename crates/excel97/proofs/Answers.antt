@@ -30,29 +30,33 @@ pub empty-fine : wellFormed [] ≡ true
 unfolding wellFormed points pointsFrom charAt pick
 empty-fine = refl
 
-same-lent : (p : List ℕ) (a b c : ℕ) → length p ≤ 1024 → wellFormed p ≡ true → lent scratchNeed p a b c ≡ lent scratchNeed [] a b c
+pub same-lent : (p : List ℕ) (a b c : ℕ) → length p ≤ 1024 → wellFormed p ≡ true → lent scratchNeed p a b c ≡ lent scratchNeed [] a b c
 unfolding lent
 same-lent p a b c h e = rw (le-leb (length p) 1024 h, e, empty-fine)
 
--- what they give, and question 27 behind them
-abbrev pub decided : Option Refusal → Bool → Option Refusal
-decided none t = pick t none (some WrongPassword)
-decided (some r) t = some r
+-- what they give, and one question behind them, whose "no" gives w
+abbrev pub decidedBy : (w : Refusal) → Option Refusal → Bool → Option Refusal
+decidedBy w none t = pick t none (some w)
+decidedBy w (some r) t = some r
 
-behind : (qs : List Question) (t : Bool) → asked (qs ++ (ask t WrongPassword ∷ [])) ≡ decided (asked qs) t
+pub behind : (w : Refusal) (qs : List Question) (t : Bool) → asked (qs ++ (ask t w ∷ [])) ≡ decidedBy w (asked qs) t
 unfolding asked
-behind qs t = go (asked qs) refl
+behind w qs t = go (asked qs) refl
   where
-    go : (o : Option Refusal) → o ≡ asked qs → asked (qs ++ (ask t WrongPassword ∷ [])) ≡ decided o t
-    go none e = asked-on qs (ask t WrongPassword ∷ []) e
-    go (some r) e = sym (asked-stop qs (ask t WrongPassword ∷ []) r e)
+    go : (o : Option Refusal) → o ≡ asked qs → asked (qs ++ (ask t w ∷ [])) ≡ decidedBy w o t
+    go none e = asked-on qs (ask t w ∷ []) e
+    go (some r) e = sym (asked-stop qs (ask t w ∷ []) r e)
+
+-- question 27 behind them
+abbrev pub decided : Option Refusal → Bool → Option Refusal
+decided = decidedBy WrongPassword
 
 all-asked : (stream p scratch output : List ℕ) (t : Bool) → length p ≤ 1024 → wellFormed p ≡ true
     → asked (questions scratchNeed stream p scratch output t) ≡ decided (asked (earlier stream scratch output)) t
 unfolding questions
 all-asked stream p scratch output t h e =
     rw (same-lent p (length stream) (length scratch) (length output) h e)
-    (ap asked (simp append-assoc) ∙ behind (earlier stream scratch output) t)
+    (ap asked (simp append-assoc) ∙ behind WrongPassword (earlier stream scratch output) t)
 
 -- numbers up to 26, and from 6 on
 pub earlier-number : (stream scratch output : List ℕ) (r : Refusal) → asked (earlier stream scratch output) ≡ some r → number r ≤ 26

@@ -18,7 +18,9 @@ use Rattle.sensitive.specs.Ansi.{ansi, ansiOf, narrow}
 use Rattle.xor_obfuscation.specs.declared.XorKey.the-variants.{Key, NoKey}
 use Rattle.xor_obfuscation.specs.Xor.{keyOf, xorKey, xorArray, passwordVerifier}
 use Rattle.file_params.specs.Questions.{le16}
+use Rattle.excel97.specs.declared.XorLock.{XorLock}
 use Rattle.excel97.specs.Open.{xorMatches, arrayOf}
+use Rattle.excel97.specs.Steps.{xorLockOf}
 
 -- the bytes, none for no password
 abbrev pub spelled : Option (List ℕ) → List ℕ
@@ -57,16 +59,21 @@ none-of : keyOf [] ≡ NoKey
 unfolding keyOf
 none-of = left (Key (xorKey [])) NoKey refl
 
-module _ (body : List ℕ) where
-  pub no-key : (o : Option (List ℕ)) → Sized o → NoKey ≡ keyOf (spelled o) → (false ≡ xorMatches body o) × (replicate 16 0 ≡ arrayOf o)
-  no-key none h e = (refl, refl)
-  no-key (some bs) h e = let g : NoKey ≡ Key (xorKey bs) = e ∙ key-of bs (h bs refl) in (cc, cc)
+-- what the password makes, where its bytes have no key and where they have one
+pub no-key : (o : Option (List ℕ)) → Sized o → NoKey ≡ keyOf (spelled o) → record { ok = false; key = 0; verifier = 0; array = replicate 16 0 } ≡ xorLockOf o
+no-key none h e = refl
+no-key (some bs) h e = let g : NoKey ≡ Key (xorKey bs) = e ∙ key-of bs (h bs refl) in cc
 
-  pub with-key : (o : Option (List ℕ)) → Sized o → (k v a b : ℕ) (array : List ℕ) → Key k ≡ keyOf (spelled o) → v ≡ passwordVerifier (spelled o)
-      → array ≡ xorArray (spelled o) k
-      → a ≡ le16 body 2 → b ≡ le16 body 4 → ((eqb k a && eqb v b) ≡ xorMatches body o) × (array ≡ arrayOf o)
-  with-key none h k v a b array e f g p q = let x : Key k ≡ NoKey = e ∙ none-of in (cc, cc)
-  with-key (some bs) h k v a b array e f g p q =
-      let x : Key k ≡ Key (xorKey bs) = e ∙ key-of bs (h bs refl) in
-      let y : k ≡ xorKey bs = cc in
-      (rw (y, f, p, q), g ∙ ap (xorArray bs) y)
+pub with-key : (o : Option (List ℕ)) → Sized o → (k v : ℕ) (array : List ℕ) → Key k ≡ keyOf (spelled o) → v ≡ passwordVerifier (spelled o)
+    → array ≡ xorArray (spelled o) k → record { ok = true; key = k; verifier = v; array = array } ≡ xorLockOf o
+with-key none h k v array e f g = let x : Key k ≡ NoKey = e ∙ none-of in cc
+with-key (some bs) h k v array e f g =
+    let x : Key k ≡ Key (xorKey bs) = e ∙ key-of bs (h bs refl) in
+    let y : k ≡ xorKey bs = cc in
+    rw (f, g, y) refl
+
+-- and against a FILEPASS body
+pub matched : (body : List ℕ) (o : Option (List ℕ)) (l : XorLock) (a b : ℕ) → l ≡ xorLockOf o → a ≡ le16 body 2 → b ≡ le16 body 4
+    → (((l .ok && eqb (l .key) a) && eqb (l .verifier) b) ≡ xorMatches body o) × (l .array ≡ arrayOf o)
+matched body none l a b e p q = rw e (refl, refl)
+matched body (some bs) l a b e p q = rw (e, p, q) (refl, refl)

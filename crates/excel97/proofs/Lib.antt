@@ -1,6 +1,7 @@
 pub mod Answers
 pub mod Blanked
 pub mod Keys
+pub mod OneRecord
 pub mod Padded
 pub mod PlainBytes
 pub mod Records

@@ -23,6 +23,7 @@ use Rattle.binary_office.proofs.Along.{records-on, records-end, records-fault, 
 use Rattle.binary_office.proofs.Walks.{record-within}
 use Rattle.file_params.specs.Questions.{filepass, filepassBody, structureOf, typeOf}
 use Rattle.survey.specs.Survey.{encipheredBytes, blockKeys}
+use Rattle.xor_obfuscation.specs.declared.Way.the-variants.{Decrypt}
 use Rattle.excel97.specs.declared.Lock.the-variants.{Xor}
 use Rattle.excel97.specs.declared.Report.{Report}
 use Rattle.excel97.specs.Open.{arrayOf, xorByte, rc4Byte, plainByte, recordAt, inRecord, blanked, plainAt, plain, xorReport, rc4Report, report}
@@ -121,7 +122,7 @@ module _ (s p : List ℕ) where
     rc4-byte h k =
         record-byte
         ∙ other-byte (plainByte (filepassBody s) p) r o (getD s o 0) k
-        ∙ left (xorByte (arrayOf (ansi p)) r o (getD s o 0)) (rc4Byte (structureOf (filepassBody s)) p o (getD s o 0)) h
+        ∙ left (xorByte Decrypt (arrayOf (ansi p)) r o (getD s o 0)) (rc4Byte (structureOf (filepassBody s)) p o (getD s o 0)) h
 
   -- a lock other than XOR has a type other than 0
   not-xor : (report s .lock ≡ Xor → ⊥) → eqb (typeOf (filepassBody s)) 0 ≡ false

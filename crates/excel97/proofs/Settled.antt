@@ -5,9 +5,10 @@ use mathlib.Core.Bool.{Bool, true, false}
 use mathlib.Core.List.{List, [], _∷_, _++_}
 use mathlib.Core.Option.{Option, none, some}
 use Prim.Native.Nat.{ℕ, _+_, _≤_}
+use native.Mathlib.Omega.{arith}
 use borrow.Author.Tests.{eq-eqb, le-leb, lt-leb, leb-true}
 use lib.Dec.{eqb, leb}
-use lib.ListN.{length, drop, replicate}
+use lib.ListN.{length, drop, replicate, length-append, length-drop, length-replicate}
 use Rattle.laws.specs.Choice.{pick}
 use Rattle.laws.proofs.Choice.{taken, left, stop}
 use Rattle.sensitive.specs.Utf8.{wellFormed}
@@ -73,6 +74,10 @@ module _ (s : List ℕ) (b : Book) (eb : b ≡ bookOf s) where
   rc4-reported z =
       let t : eqb (typeOf (filepassBody s)) 0 ≡ false = rw z refl in
       rw (records-are, enciphered-are, left xorReport (rc4Report (structureOf (filepassBody s))) t)
+
+-- the scratch after its first 64 bytes were used
+pub same-size : (w : List ℕ) → 64 ≤ length w → length (replicate 64 0 ++ drop 64 w) ≡ length w
+same-size w h = length-append (replicate 64 0) (drop 64 w) ∙ simp (length-replicate, length-drop) (omega arith)
 
 -- refused: nothing is touched
 module _ (s p w o : List ℕ) where

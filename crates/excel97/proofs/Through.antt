@@ -1,7 +1,7 @@
 -- The loops that write the output record by record: what is written up to a record, and the record itself, is what is written up to the next one.
 -- Assumes nothing.
-use mathlib.Core.Path.{_≡_, sym, ap, _∙_}
-use mathlib.Core.List.{List, _++_}
+use mathlib.Core.Path.{_≡_, refl, sym, ap, _∙_}
+use mathlib.Core.List.{List, [], _++_}
 use mathlib.Core.Option.{Option, some}
 use Prim.Native.Nat.{ℕ, _+_, _-_, _≤_, _<_, min}
 use native.Mathlib.Omega.{arith}
@@ -10,12 +10,12 @@ use lib.ListN.{length, getD, take, drop}
 use Rattle.laws.proofs.Choice.{taken, left, either}
 use Rattle.laws.proofs.Written.{Written, written-join}
 use Rattle.binary_office.specs.declared.Step.the-variants as step
-use Rattle.binary_office.specs.Walk.{BiffRecord, stepAt, clearLen}
-use Rattle.binary_office.proofs.Along.{records-end}
-use Rattle.xor_obfuscation.specs.Xor.{deciphered, Deciphers}
+use Rattle.binary_office.specs.Walk.{BiffRecord, stepAt, walkAt, clearLen}
+use Rattle.xor_obfuscation.specs.declared.Way.{Way}
+use Rattle.xor_obfuscation.specs.Xor.{transformed, Transforms}
 use Rattle.block_keys.proofs.Parts.{written-by, lent-part, part-size}
 use Rattle.excel97.specs.Open.{inRecord, xorByte}
-use Rattle.excel97.specs.Steps.{throughAt}
+use Rattle.excel97.specs.Steps.{throughAt, Through}
 use Rattle.survey.proofs.Records.{clear-within}
 use Rattle.excel97.proofs.Records.{Reached, in-none, record-here}
 
@@ -41,14 +41,26 @@ module _ (s : List ℕ) (f : BiffRecord → ℕ → ℕ → ℕ) (at id len : �
       (λ o h k. sym (here o h k)) v)
 
 -- behind the records the stream's own bytes are written
-pub through-rest : (s : List ℕ) (f : BiffRecord → ℕ → ℕ → ℕ) (at : ℕ) → Reached s at → stepAt s at ≡ step.End → (d d₁ d₂ : List ℕ)
+pub through-rest : (s : List ℕ) (f : BiffRecord → ℕ → ℕ → ℕ) (at : ℕ) → Reached s at → walkAt s at .records ≡ [] → (d d₁ d₂ : List ℕ)
     → Written (throughAt s f) 0 at d d₁ → Written (λ (o : ℕ). getD s o 0) at (length s) d₁ d₂ → Written (throughAt s f) 0 (length s) d d₂
-through-rest s f at w e d d₁ d₂ before v =
+through-rest s f at w none-left d d₁ d₂ before v =
     let i = w .inside in
-    let none-left = records-end s at e in
     written-join (throughAt s f) 0 at (length s) d d₁ d₂ (omega arith) i before
     (written-by (λ (o : ℕ). getD s o 0) (throughAt s f) at (length s) d₁ d₂
     (λ o h k. sym (ap (λ (r : Option BiffRecord). inRecord f r o (getD s o 0)) (in-none s at w none-left o h))) v)
+
+-- an output that is too short, and one that has room
+pub through-short : (s : List ℕ) (f : BiffRecord → ℕ → ℕ → ℕ) (d : List ℕ) → length d < length s → Through s f d d
+through-short s f d h = record { written = λ k. absurd (no (length s) (length d) h k); short = λ k. refl }
+  where
+    no : (a b : ℕ) → b < a → a ≤ b → ⊥
+    no a b h k = omega arith
+
+pub through-room : (s : List ℕ) (f : BiffRecord → ℕ → ℕ → ℕ) (d d′ : List ℕ) → length s ≤ length d → Written (throughAt s f) 0 (length s) d d′ → Through s f d d′
+through-room s f d d′ h w = record { written = λ k. w; short = λ k. absurd (no (length s) (length d) h k) }
+  where
+    no : (a b : ℕ) → a ≤ b → b < a → ⊥
+    no a b h k = omega arith
 
 -- a record of which only header and clear part are written, over what the output held
 module _ (s : List ℕ) (at id len : ℕ) (w : Reached s at) (e : stepAt s at ≡ step.Record id len) (d d₁ d₂ : List ℕ) (n : ℕ) (en : n ≡ at + 4 + clearLen id len) where
@@ -69,15 +81,15 @@ module _ (s : List ℕ) (at id len : ℕ) (w : Reached s at) (e : stepAt s at �
         after = λ o h. v .after o (omega arith);
       })
 
--- a record under XOR: header and clear part are copied, and what is behind them is deciphered in its place
-module _ (s array d d₁ ys : List ℕ) (at id len : ℕ) (clear start stop : ℕ) (inside : at + 4 + len ≤ length s) (room : length s ≤ length d) (ec : clear ≡ clearLen id len)
+-- a record under XOR: header and clear part are copied, and what is behind them is put through it in its place
+module _ (way : Way) (s array d d₁ ys : List ℕ) (at id len : ℕ) (clear start stop : ℕ) (inside : at + 4 + len ≤ length s) (room : length s ≤ length d) (ec : clear ≡ clearLen id len)
     (es : start ≡ at + 4 + clear) (et : stop ≡ at + 4 + len) (front : Written (λ (o : ℕ). getD s o 0) at start d d₁)
-    (part : Deciphers array (stop + clear) (take (stop - start) (drop start s)) (take (stop - start) (drop start d₁)) ys) where
+    (part : Transforms way array (stop + clear) (take (stop - start) (drop start s)) (take (stop - start) (drop start d₁)) ys) where
   abbrev it : BiffRecord
   it = record { at = at; id = id; len = len }
 
   abbrev target : ℕ → ℕ
-  target o = inRecord (xorByte array) (some it) o (getD s o 0)
+  target o = inRecord (xorByte way array) (some it) o (getD s o 0)
 
   least : clear ≤ len
   least = rw ec (clear-within id len)
@@ -89,19 +101,19 @@ module _ (s array d d₁ ys : List ℕ) (at id len : ℕ) (clear start stop : �
   fits-d = let c = least in let l = front .same in omega arith
 
   -- a byte behind the clear part
-  byte-is : (o : ℕ) → start ≤ o → deciphered array (stop + clear) (o - start) (getD s o 0) ≡ target o
+  byte-is : (o : ℕ) → start ≤ o → transformed way array (stop + clear) (o - start) (getD s o 0) ≡ target o
   unfolding xorByte
   byte-is o h =
       let past : at + 4 + clearLen id len ≤ o = rw (← ec, ← es) h in
-      rw (et, es, ec) (sym (other-byte (xorByte array) it o (getD s o 0) past))
+      rw (et, es, ec) (sym (other-byte (xorByte way array) it o (getD s o 0) past))
 
   behind : Written target start (start + (stop - start)) d₁ (take start d₁ ++ (ys ++ drop (stop - start) (drop start d₁)))
   behind =
       let n : min (length (take (stop - start) (drop start s))) (length (take (stop - start) (drop start d₁))) ≡ stop - start =
       rw (part-size s start (stop - start) fits-s, part-size d₁ start (stop - start) fits-d) (same (stop - start)) in
-      written-by (λ (o : ℕ). deciphered array (stop + clear) (o - start) (getD s o 0)) target start (start + (stop - start)) d₁
+      written-by (λ (o : ℕ). transformed way array (stop + clear) (o - start) (getD s o 0)) target start (start + (stop - start)) d₁
       (take start d₁ ++ (ys ++ drop (stop - start) (drop start d₁))) (λ o h k. byte-is o h)
-      (lent-part (λ (i x : ℕ). deciphered array (stop + clear) i x) s d₁ ys start (stop - start) fits-s fits-d (rw n at (part .bytes)))
+      (lent-part (λ (i x : ℕ). transformed way array (stop + clear) i x) s d₁ ys start (stop - start) fits-s fits-d (rw n at (part .bytes)))
     where
       same : (n : ℕ) → min n n ≡ n
       same n = omega arith
@@ -113,5 +125,5 @@ module _ (s array d d₁ ys : List ℕ) (at id len : ℕ) (clear start stop : �
       let e : start + (stop - start) ≡ at + 4 + len = omega arith in
       rw (← e)
       (written-join target at start (start + (stop - start)) d d₁ (take start d₁ ++ (ys ++ drop (stop - start) (drop start d₁))) (omega arith) (omega arith)
-      (written-by (λ (o : ℕ). getD s o 0) target at start d d₁ (λ o h k. sym (own-byte (xorByte array) it o (getD s o 0) (rw (← ec, ← es) k))) front)
+      (written-by (λ (o : ℕ). getD s o 0) target at start d d₁ (λ o h k. sym (own-byte (xorByte way array) it o (getD s o 0) (rw (← ec, ← es) k))) front)
       behind)

@@ -10,29 +10,25 @@ use native.Mathlib.Nat.{zero-add, le-of-eq}
 use native.Mathlib.Omega.{arith}
 use lib.Bits.{bitXor}
 use lib.Dec.{eqb}
-use lib.ListN.{length, getD, take, drop, replicate, length-append, length-drop, List·getD-append}
+use lib.ListN.{length, getD, take, drop, length-append, length-drop, List·getD-append}
 use lib.Seq.{ext-getD, getD-append-add, getD-drop, take-all}
-use borrow.Author.Tests.{eq-eqb, le-leb}
+use borrow.Author.Tests.{eq-eqb}
 use Rattle.laws.specs.Choice.{pick}
 use Rattle.laws.specs.Offsets.{tabulate, mapAt}
 use Rattle.laws.proofs.Choice.{taken, left, stop, skip}
 use Rattle.laws.proofs.Offsets.{length-tabulate, getD-tabulate, length-mapAt, getD-mapAt}
 use Rattle.laws.proofs.Written.{Written, written-all}
-use Rattle.sensitive.specs.Utf8.{wellFormed}
 use Rattle.sensitive.specs.Ansi.{ansi}
-use Rattle.password_digest.specs.Digest.{fits}
 use Rattle.binary_office.specs.Walk.{BiffRecord, walk}
 use Rattle.file_params.specs.Questions.{filepass, filepassBody, typeOf, structureOf}
 use Rattle.block_keys.specs.BlockKeys.{scheduleOf, blockKey, keystreamAt, decipheredAt, startedBlocks, verified, Decrypts}
-use Rattle.block_keys.specs.Lock.{lockOf, part, saltOf, Schedules}
-use Rattle.block_keys.specs.declared.Kind.{Kind}
-use Rattle.block_keys.specs.declared.Kind.the-variants.{Office97, CryptoApi}
+use Rattle.block_keys.specs.Lock.{lockOf, part, saltOf}
 use Rattle.block_keys.specs.declared.Rc4Lock.{Rc4Lock}
 use Rattle.block_keys.specs.declared.Schedule.{Schedule}
-use Rattle.block_keys.specs.declared.Scheduled.{Scheduled}
 use Rattle.survey.specs.declared.Found.the-variants as found
 use Rattle.survey.specs.Survey.{blockKeys}
 use Rattle.survey.specs.Steps.{foundOf}
+use Rattle.xor_obfuscation.specs.declared.Way.the-variants.{Decrypt}
 use Rattle.excel97.specs.Open.{xorMatches, rc4Matches, arrayOf, xorByte, rc4Byte, keystream, plainByte, recordAt, inRecord, blanked, plainAt, plain, passes}
 use Rattle.excel97.specs.Steps.{throughAt, Blanks, Unlocks}
 use Rattle.excel97.proofs.Blanked.{blank-behind}
@@ -157,7 +153,7 @@ module _ (body p : List ℕ) (z : typeOf body ≡ 0) where
   unfolding passes
   xor-passes = taken (xorMatches body (ansi p)) (rc4Matches (structureOf body) p) (eq-eqb (typeOf body) 0 z)
 
-  pub xor-bytes : (array : List ℕ) → array ≡ arrayOf (ansi p) → (r : BiffRecord) (o x : ℕ) → xorByte array r o x ≡ plainByte body p r o x
+  pub xor-bytes : (array : List ℕ) → array ≡ arrayOf (ansi p) → (r : BiffRecord) (o x : ℕ) → xorByte Decrypt array r o x ≡ plainByte body p r o x
   unfolding plainByte
   xor-bytes array e r o x = rw e (stop (rc4Byte (structureOf body) p o x) (eq-eqb (typeOf body) 0 z))
 
@@ -173,17 +169,12 @@ module _ (body p : List ℕ) (z : typeOf body ≡ 1) where
   pub rc4-bytes : (schedule : Schedule) → schedule ≡ scheduleOf (lockOf (structureOf body) .kind) (lockOf (structureOf body) .«key_bits») (saltOf (structureOf body)) p
       → (r : BiffRecord) (o x : ℕ) → bitXor x (keystreamAt 1024 (blockKey schedule) o) ≡ plainByte body p r o x
   unfolding plainByte keystream
-  rc4-bytes schedule e r o x = rw e (skip (xorByte (arrayOf (ansi p)) r o x) not-xor refl)
+  rc4-bytes schedule e r o x = rw e (skip (xorByte Decrypt (arrayOf (ansi p)) r o x) not-xor refl)
 
   -- one key for the check, and those of the blocks
   pub keys-in-all : (n : ℕ) → 1 + startedBlocks 1024 n ≡ blockKeys body n
   unfolding blockKeys
   keys-in-all n = skip 0 not-xor refl
-
--- a schedule by its fields
-fields : (q : Schedule) (k : Kind) (bits : ℕ) (digest : List ℕ) → q .kind ≡ k → q .«key_bits» ≡ bits → q .digest ≡ digest
-    → q ≡ record { kind = k; «key_bits» = bits; digest = digest }
-fields q k bits digest a b c = rw (← a, ← b, ← c)
 
 -- the check and the bytes, by the structure that the code cut out and the lock that it read
 module _ (body p st : List ℕ) (lock : Rc4Lock) (q : Schedule) (z : typeOf body ≡ 1) (e : st ≡ structureOf body) (l : lock ≡ lockOf (structureOf body))
@@ -196,23 +187,3 @@ module _ (body p st : List ℕ) (lock : Rc4Lock) (q : Schedule) (z : typeOf body
 
   pub rc4-plain : (r : BiffRecord) (o x : ℕ) → bitXor x (keystreamAt 1024 (blockKey q) o) ≡ plainByte body p r o x
   rc4-plain = rc4-bytes body p z q same-schedule
-
--- the schedule that was made, where scratch and password allow one
-module _ (lock : Rc4Lock) (salt p w w′ : List ℕ) (r : Scheduled) (m : Schedules lock salt p w r w′) (h : 64 ≤ length w) (u : wellFormed p ≡ true) where
-  fitting : fits p w ≡ true
-  fitting = rw (le-leb 64 (length w) h, u)
-
-  pub made : r .ok ≡ true
-  made = m .digest .told ∙ fitting
-
-  pub left-zero : w′ ≡ replicate 64 0 ++ drop 64 w
-  left-zero = m .digest .wiped ∙ taken (replicate 64 0 ++ drop 64 w) w (le-leb 64 (length w) h)
-
-  by-kind : (k : Kind) (bits : ℕ) (q : Schedule) → q .kind ≡ k → q .«key_bits» ≡ bits → q .digest ≡ scheduleOf k bits salt p .digest → q ≡ scheduleOf k bits salt p
-  by-kind Office97 bits q a b c = fields q Office97 bits (scheduleOf Office97 bits salt p .digest) a b c
-  by-kind CryptoApi bits q a b c = fields q CryptoApi bits (scheduleOf CryptoApi bits salt p .digest) a b c
-
-  pub schedule-made : r .schedule ≡ scheduleOf (lock .kind) (lock .«key_bits») salt p
-  schedule-made =
-      by-kind (lock .kind) (lock .«key_bits») (r .schedule) (m .kind) (m .bits)
-      (m .digest .digested ∙ taken (scheduleOf (lock .kind) (lock .«key_bits») salt p .digest) (replicate 20 0) fitting)

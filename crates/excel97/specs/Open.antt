@@ -12,7 +12,9 @@ use lib.ListN.{length, drop, replicate}
 use Rattle.laws.specs.Choice.{pick}
 use Rattle.laws.specs.Offsets.{mapAt}
 use Rattle.sensitive.specs.Ansi.{ansi}
-use Rattle.xor_obfuscation.specs.Xor.{passwordVerifier, xorKey, xorArray, deciphered}
+use Rattle.xor_obfuscation.specs.declared.Way.{Way}
+use Rattle.xor_obfuscation.specs.declared.Way.the-variants.{Decrypt}
+use Rattle.xor_obfuscation.specs.Xor.{passwordVerifier, xorKey, xorArray, transformed}
 use Rattle.binary_office.specs.Walk.{BiffRecord, walk, clearLen}
 use Rattle.file_params.specs.declared.Refusal.{Refusal}
 use Rattle.file_params.specs.Refusal.{number}
@@ -52,17 +54,18 @@ abbrev pub arrayOf : Option (List ℕ) → List ℕ
 arrayOf none = replicate 16 0
 arrayOf (some p) = xorArray p (xorKey p)
 
--- a byte x of the enciphered part of a record, at an offset: under XOR the first uses array index (body end + clear) mod 16, each later one the next
-unfoldable pub xorByte : (array : List ℕ) → BiffRecord → (offset x : ℕ) → ℕ
-xorByte array r offset x =
+-- a byte x of the enciphered part of a record, at an offset: under XOR the first uses array index (body end + clear) mod 16, each later one the next. Opening
+-- deciphers it, sealing enciphers it.
+unfoldable pub xorByte : Way → (array : List ℕ) → BiffRecord → (offset x : ℕ) → ℕ
+xorByte way array r offset x =
     let clear = clearLen (r .id) (r .len) in
-    deciphered array (r .at + 4 + r .len + clear) (offset - (r .at + 4 + clear)) x
+    transformed way array (r .at + 4 + r .len + clear) (offset - (r .at + 4 + clear)) x
 
 abbrev pub rc4Byte : (structure password : List ℕ) → (offset x : ℕ) → ℕ
 rc4Byte structure password offset x = bitXor x (keystream password (saltOf structure) (lockOf structure .kind) (lockOf structure .«key_bits») offset)
 
 unfoldable pub plainByte : (body password : List ℕ) → BiffRecord → (offset x : ℕ) → ℕ
-plainByte body password r offset x = pick (eqb (typeOf body) 0) (xorByte (arrayOf (ansi password)) r offset x) (rc4Byte (structureOf body) password offset x)
+plainByte body password r offset x = pick (eqb (typeOf body) 0) (xorByte Decrypt (arrayOf (ansi password)) r offset x) (rc4Byte (structureOf body) password offset x)
 
 -- the record that an offset lies in
 abbrev pub covers : BiffRecord → ℕ → Bool

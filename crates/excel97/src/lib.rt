@@ -5,24 +5,21 @@ ghost use mathlib.Core.Path.{_≡_};
 ghost use Prim.Native.Nat.{ℕ, _+_, _≤_};
 ghost use mathlib.Core.Bool.{true};
 ghost use mathlib.Core.List.{_++_};
-ghost use lib.Bits.{bitXor};
 ghost use lib.ListN.{length, getD, drop, replicate};
 ghost use mathlib.Core.Option.{none, some};
 ghost use Rattle.laws.specs.Choice.{pick};
 ghost use Rattle.laws.proofs.Written.{Written};
 ghost use Rattle.sensitive.specs.Utf8.{wellFormed};
 ghost use Rattle.sensitive.specs.Ansi.{ansi};
-ghost use Rattle.binary_office.specs.declared.WalkEnd.the-variants.{Clean};
-ghost use Rattle.binary_office.specs.Walk.{BiffRecord, walk};
+ghost use Rattle.binary_office.specs.Walk.{BiffRecord};
 ghost use Rattle.file_params.specs.declared.Refusal.the-variants.{WrongPassword};
 ghost use Rattle.file_params.specs.Questions.{scratchNeed, asked, lent, ofStream, le16, filepassBody, typeOf, structureOf};
 ghost use Rattle.survey.specs.Checked.{checkedOf};
 ghost use Rattle.survey.specs.Survey.{blockKeys, bookOf};
-ghost use Rattle.block_keys.specs.BlockKeys.{blockKey, keystreamAt, startedBlocks};
 ghost use Rattle.block_keys.specs.Lock.{lockOf};
 ghost use Rattle.excel97.specs.declared.Answer.the-variants.{Opened, Refused};
 ghost use Rattle.excel97.specs.Open.{xorMatches, arrayOf, xorByte, inRecord, byKind, Opens};
-ghost use Rattle.excel97.specs.Steps.{throughAt, Blanks, Unlocks, Ready, Settles};
+ghost use Rattle.excel97.specs.Steps.{xorLockOf, throughAt, Through, ThroughRc4, Blanks, Unlocks, Ready, Settles};
 
 // The lock of a workbook.
 pub enum Lock {
@@ -49,7 +46,7 @@ pub enum Answer {
 }
 
 // Asks questions 1 to 5.
-fn check_lent(password: &[u8], stream: usize, scratch: usize, output: usize) -> survey::Checked
+pub fn check_lent(password: &[u8], stream: usize, scratch: usize, output: usize) -> survey::Checked
     ensures { λ r. ⌜ r ≡ checkedOf (asked (lent scratchNeed (now (password .entry)) stream scratch output)) ⌝ }
 {
     if limits::PASSWORD_MAX_LEN < password.len() {
@@ -94,6 +91,40 @@ fn zero(dst: &mut [u8], from: usize, to: usize)
     }
 }
 
+// What a password makes under XOR: whether it is one of 1 to 15 characters up to U+00FF, its key, its verifier and its
+// array; zeros where it is none.
+pub struct XorLock {
+    pub ok: bool,
+    pub key: u16,
+    pub verifier: u16,
+    pub array: [u8; 16],
+}
+
+// Makes the key, the verifier and the array of an XOR password.
+pub fn xor_lock(password: &[u8]) -> XorLock
+    ensures { λ r. ⌜ r ≡ xorLockOf (ansi (now (password .entry))) ⌝ }
+{
+    let ansi = sensitive::ansi_password(password);
+    let bytes = ansi.bytes;
+    let len = ansi.len;
+    let xor_obfuscation::XorKey::Key(key) = xor_obfuscation::xor_key(&bytes[..len]) else {
+        return XorLock {
+            ok: false,
+            key: 0,
+            verifier: 0,
+            array: [0u8; 16],
+        };
+    };
+    let array = xor_obfuscation::xor_array(&bytes[..len], key);
+    let verifier = xor_obfuscation::password_verifier(&bytes[..len]);
+    XorLock {
+        ok: true,
+        key,
+        verifier,
+        array,
+    }
+}
+
 // A password tried on an XOR lock: whether it passes, and the array that it makes.
 struct Tried {
     ok: bool,
@@ -116,31 +147,31 @@ fn try_xor(body: &[u8], password: &[u8]) -> Tried
     requires { ⌜ 6 ≤ length (now body) ⌝ }
     ensures { λ r. ⌜ (r .ok ≡ xorMatches (now (body .entry)) (ansi (now (password .entry)))) × (r .array ≡ arrayOf (ansi (now (password .entry)))) ⌝ }
 {
-    let ansi = sensitive::ansi_password(password);
-    let bytes = ansi.bytes;
-    let len = ansi.len;
-    let xor_obfuscation::XorKey::Key(key) = xor_obfuscation::xor_key(&bytes[..len]) else {
-        return Tried {
-            ok: false,
-            array: [0u8; 16],
-        };
-    };
-    let array = xor_obfuscation::xor_array(&bytes[..len], key);
-    let verifier = xor_obfuscation::password_verifier(&bytes[..len]);
-    let ok = (key == field(body, 2)) & (verifier == field(body, 4));
+    let lock = xor_lock(password);
+    let array = lock.array;
+    let ok = lock.ok & (lock.key == field(body, 2)) & (lock.verifier == field(body, 4));
     Tried { ok, array }
 }
 
-// Deciphers one record under XOR: its header and clear part are the stream's own.
-fn unxor_record(stream: &[u8], array: &[u8; 16], at: usize, id: u16, len: u16, output: &mut [u8])
+// Puts one record through XOR: its header and clear part are the stream's own.
+fn xor_record(
+    way: xor_obfuscation::Way,
+    stream: &[u8],
+    array: &[u8; 16],
+    at: usize,
+    id: u16,
+    len: u16,
+    output: &mut [u8],
+)
     requires { ⌜ (at + 4 + len ≤ length (now stream)) × (length (now stream) ≤ length (now output)) ⌝ }
-    ensures { λ _. ⌜ Written (λ (o : ℕ). inRecord (xorByte (now (array .entry))) (some (record { at = at; id = id; len = len })) o (getD (now (stream .entry)) o 0)) at (at + 4 + len) (now (output .entry)) (now (output .exit)) ⌝ }
+    ensures { λ _. ⌜ Written (λ (o : ℕ). inRecord (xorByte way (now (array .entry))) (some (record { at = at; id = id; len = len })) o (getD (now (stream .entry)) o 0)) at (at + 4 + len) (now (output .entry)) (now (output .exit)) ⌝ }
 {
     let clear = binary_office::clear_len(id, len) as usize;
     let start = at + 4 + clear;
     let end = at + 4 + (len as usize);
     copy(stream, at, start, output);
-    xor_obfuscation::decrypt(
+    xor_obfuscation::transform(
+        way,
         array,
         end + clear,
         &stream[start..end],
@@ -148,19 +179,22 @@ fn unxor_record(stream: &[u8], array: &[u8; 16], at: usize, id: u16, len: u16, o
     );
 }
 
-// Deciphers a stream under XOR, record by record; padding is the stream's own.
-fn unxor(stream: &[u8], array: &[u8; 16], output: &mut [u8])
-    requires { ⌜ (walk (now stream) .ends ≡ Clean) × (length (now stream) ≤ length (now output)) ⌝ }
-    ensures { λ _. ⌜ Written (throughAt (now (stream .entry)) (xorByte (now (array .entry)))) 0 (length (now (stream .entry))) (now (output .entry)) (now (output .exit)) ⌝ }
+// Puts a stream through XOR, record by record; what lies behind the records is the stream's own.
+fn xor_records(way: xor_obfuscation::Way, stream: &[u8], array: &[u8; 16], output: &mut [u8])
+    requires { ⌜ length (now stream) ≤ length (now output) ⌝ }
+    ensures { λ _. ⌜ Written (throughAt (now (stream .entry)) (xorByte way (now (array .entry)))) 0 (length (now (stream .entry))) (now (output .entry)) (now (output .exit)) ⌝ }
 {
     let mut at: usize = 0;
     loop {
         match binary_office::step_at(stream, at) {
             binary_office::Step::Record(id, len) => {
-                unxor_record(stream, array, at, id, len, output);
+                xor_record(way, stream, array, at, id, len, output);
                 at = at + 4 + (len as usize);
             }
-            binary_office::Step::Fault(_) => return,
+            binary_office::Step::Fault(_) => {
+                copy(stream, at, stream.len(), output);
+                return;
+            }
             binary_office::Step::End => {
                 copy(stream, at, stream.len(), output);
                 return;
@@ -169,9 +203,10 @@ fn unxor(stream: &[u8], array: &[u8; 16], output: &mut [u8])
     }
 }
 
-// Puts the headers, the clear parts and the padding back into a stream whose every byte was deciphered.
+// Puts the headers, the clear parts and what lies behind the records back into a stream whose every byte was enciphered
+// or deciphered.
 fn restore(stream: &[u8], output: &mut [u8])
-    requires { ⌜ (walk (now stream) .ends ≡ Clean) × (length (now stream) ≤ length (now output)) ⌝ }
+    requires { ⌜ length (now stream) ≤ length (now output) ⌝ }
     ensures { λ _. ⌜ Written (throughAt (now (stream .entry)) (λ (r : BiffRecord) (o x : ℕ). getD (now (output .entry)) o 0)) 0 (length (now (stream .entry))) (now (output .entry)) (now (output .exit)) ⌝ }
 {
     let mut at: usize = 0;
@@ -182,7 +217,10 @@ fn restore(stream: &[u8], output: &mut [u8])
                 copy(stream, at, at + 4 + clear, output);
                 at = at + 4 + (len as usize);
             }
-            binary_office::Step::Fault(_) => return,
+            binary_office::Step::Fault(_) => {
+                copy(stream, at, stream.len(), output);
+                return;
+            }
             binary_office::Step::End => {
                 let end = stream.len();
                 copy(stream, at, end, output);
@@ -190,6 +228,30 @@ fn restore(stream: &[u8], output: &mut [u8])
             }
         }
     }
+}
+
+// Puts the enciphered bytes of a stream through XOR into an output; the others are copied. An output that is too short
+// stays as it is.
+pub fn apply_xor(way: xor_obfuscation::Way, stream: &[u8], array: &[u8; 16], output: &mut [u8])
+    ensures { λ _. ⌜ Through (now (stream .entry)) (xorByte way (now (array .entry))) (now (output .entry)) (now (output .exit)) ⌝ }
+{
+    if output.len() < stream.len() {
+        return;
+    }
+    xor_records(way, stream, array, output);
+}
+
+// Puts the enciphered bytes of a stream through RC4 into an output, by the keys of a schedule; the others are copied.
+// Tells how many block keys were derived. An output that is too short stays as it is.
+pub fn apply_rc4(stream: &[u8], schedule: block_keys::Schedule, output: &mut [u8]) -> usize
+    ensures { λ r. ⌜ ThroughRc4 (now (stream .entry)) schedule (now (output .entry)) r (now (output .exit)) ⌝ }
+{
+    if output.len() < stream.len() {
+        return 0;
+    }
+    let keys = block_keys::decrypt_in_blocks(schedule, 1024, stream, output);
+    restore(stream, output);
+    keys
 }
 
 // Gives the first FILEPASS id 0000 and a zero body.
@@ -213,20 +275,9 @@ fn unlock_xor(stream: &[u8], at: usize, len: u16, password: &[u8], output: &mut 
         return false;
     }
     let array = tried.array;
-    unxor(stream, &array, output);
+    apply_xor(xor_obfuscation::Way::Decrypt, stream, &array, output);
     blank(output, at, len);
     true
-}
-
-// Deciphers a stream under RC4: every byte, and then headers, clear parts and padding are put back. Tells how many block
-// keys were derived.
-fn unrc4(stream: &[u8], schedule: block_keys::Schedule, output: &mut [u8]) -> usize
-    requires { ⌜ (walk (now stream) .ends ≡ Clean) × (length (now stream) ≤ length (now output)) ⌝ }
-    ensures { λ r. ⌜ (r ≡ startedBlocks 1024 (length (now (stream .entry)))) × Written (throughAt (now (stream .entry)) (λ (r : BiffRecord) (o x : ℕ). bitXor x (keystreamAt 1024 (blockKey schedule) o))) 0 (length (now (stream .entry))) (now (output .entry)) (now (output .exit)) ⌝ }
-{
-    let keys = block_keys::decrypt_in_blocks(schedule, 1024, stream, output);
-    restore(stream, output);
-    keys
 }
 
 // A password that was tried on an RC4 lock: whether it passes, and how many block keys were derived in all.
@@ -266,7 +317,7 @@ fn unlock_rc4(
             block_keys: 1,
         };
     }
-    let keys = unrc4(stream, schedule, output);
+    let keys = apply_rc4(stream, schedule, output);
     blank(output, at, len);
     TriedRc4 {
         ok: true,

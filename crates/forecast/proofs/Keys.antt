@@ -25,6 +25,7 @@ use Rattle.block_keys.specs.declared.Kind.the-variants.{Office97, CryptoApi}
 use Rattle.block_keys.specs.BlockKeys.{scheduleOf, blockKey, keystreamAt, startedBlocks, digestBy, digestLen, agree, under, verified}
 use Rattle.block_keys.specs.Lock.{lockOf, part, saltOf}
 use Rattle.block_keys.proofs.Blocks.{begins, begun}
+use Rattle.xor_obfuscation.specs.declared.Way.the-variants.{Decrypt}
 use Rattle.excel97.specs.Open.{xorMatches, rc4Matches, arrayOf, xorByte, rc4Byte, keystream, passes, plainByte, recordAt, inRecord, blanked, plainAt, plain}
 use Rattle.forecast.specs.Theorems.{ownOr, byPlace, keyed, passesBy, plainBy, keysBy, NoKeysUsed, KeysUsed}
 
@@ -92,20 +93,20 @@ module _ (s : List ℕ) where
 
   -- under XOR
   module _ (z : typeOf body ≡ 0) where
-    xor-byte : (password : List ℕ) (r : BiffRecord) (o x : ℕ) → plainByte body password r o x ≡ xorByte (arrayOf (ansi password)) r o x
+    xor-byte : (password : List ℕ) (r : BiffRecord) (o x : ℕ) → plainByte body password r o x ≡ xorByte Decrypt (arrayOf (ansi password)) r o x
     unfolding plainByte
-    xor-byte password r o x = taken (xorByte (arrayOf (ansi password)) r o x) (rc4Byte (structureOf body) password o x) (eq-eqb (typeOf body) 0 z)
+    xor-byte password r o x = taken (xorByte Decrypt (arrayOf (ansi password)) r o x) (rc4Byte (structureOf body) password o x) (eq-eqb (typeOf body) 0 z)
 
     xor-check : (password : List ℕ) → passes body password ≡ xorMatches body (ansi password)
     unfolding passes
     xor-check password = taken (xorMatches body (ansi password)) (rc4Matches (structureOf body) password) (eq-eqb (typeOf body) 0 z)
 
     xor-plain : (password : List ℕ)
-        → plain s password ≡ mapAt (λ (o x : ℕ). byPlace s o 0 x (λ (r : BiffRecord). xorByte (arrayOf (ansi password)) r o x)) 0 s
+        → plain s password ≡ mapAt (λ (o x : ℕ). byPlace s o 0 x (λ (r : BiffRecord). xorByte Decrypt (arrayOf (ansi password)) r o x)) 0 s
     unfolding plain
     xor-plain password =
         same-map (plainAt s password) _ 0 s
-        (λ o x k. by-place s password o x ∙ same-place s o x _ (λ (r : BiffRecord). xorByte (arrayOf (ansi password)) r o x) (λ r. xor-byte password r o x))
+        (λ o x k. by-place s password o x ∙ same-place s o x _ (λ (r : BiffRecord). xorByte Decrypt (arrayOf (ansi password)) r o x) (λ r. xor-byte password r o x))
 
     none-listed : keyed s ≡ []
     unfolding keyed
@@ -135,7 +136,7 @@ module _ (s : List ℕ) where
     byte-by : (password : List ℕ) (r : BiffRecord) (o x : ℕ)
         → plainByte body password r o x ≡ bitXor x (keystreamByte (keysBy (structureOf body) password (o / 1024)) (o % 1024))
     unfolding plainByte keystream keystreamAt
-    byte-by password r o x = left (xorByte (arrayOf (ansi password)) r o x) (rc4Byte (structureOf body) password o x) (ne-eqb (typeOf body) 0 f)
+    byte-by password r o x = left (xorByte Decrypt (arrayOf (ansi password)) r o x) (rc4Byte (structureOf body) password o x) (ne-eqb (typeOf body) 0 f)
 
     by-keys : (password : List ℕ) → plain s password ≡ plainBy (keysBy (structureOf body) password) s
     unfolding plain

@@ -21,6 +21,7 @@ use Rattle.file_params.specs.Numbers.{numbers}
 use Rattle.block_keys.specs.BlockKeys.{scheduleOf, blockKey, startedBlocks, digestBy, digestLen, agree, under}
 use Rattle.block_keys.specs.Lock.{lockOf, part, saltOf}
 use Rattle.survey.specs.Survey.{encipheredBytes, blockKeys, alone}
+use Rattle.xor_obfuscation.specs.declared.Way.the-variants.{Decrypt}
 use Rattle.excel97.specs.declared.Report.{Report}
 use Rattle.excel97.specs.declared.Answer as excel97
 use Rattle.excel97.specs.declared.Answer.the-variants as answer
@@ -95,7 +96,7 @@ pub record NoKeysUsed (stream : List ℕ) : Type 0 where
   pub none-derived : keyed stream ≡ []
   pub passes-by : (password : List ℕ) → passes (filepassBody stream) password ≡ xorMatches (filepassBody stream) (ansi password)
   pub plain-by : (password : List ℕ)
-      → plain stream password ≡ mapAt (λ (offset x : ℕ). byPlace stream offset 0 x (λ (r : BiffRecord). xorByte (arrayOf (ansi password)) r offset x)) 0 stream
+      → plain stream password ≡ mapAt (λ (offset x : ℕ). byPlace stream offset 0 x (λ (r : BiffRecord). xorByte Decrypt (arrayOf (ansi password)) r offset x)) 0 stream
 
 -- "under RC4 they are one for the check and one for each started 1,024 bytes": what the list of blocks has to do with opening
 pub record KeysUsed (stream : List ℕ) : Type 0 where

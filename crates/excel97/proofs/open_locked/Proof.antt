@@ -1,10 +1,7 @@
 -- `excel97::open_locked` meets its contract: the lock that was surveyed, and the password tried on it.
 -- Assumes nothing.
 use mathlib.Core.Path.{_≡_, refl, ap, _∙_}
-use mathlib.Core.List.{List, _++_}
-use Prim.Native.Nat.{ℕ, _≤_}
-use native.Mathlib.Omega.{arith}
-use lib.ListN.{length, drop, replicate, length-append, length-drop, length-replicate}
+use lib.ListN.{length, drop}
 use Rattle.laws.proofs.Choice.{taken}
 use Rattle.file_params.specs.Questions.{filepassBody}
 use Rattle.survey.specs.Survey.{blockKeys}
@@ -12,7 +9,7 @@ use Rattle.survey.proofs.Locked.{two-there, six-there}
 use Rattle.survey.proofs.Told.{lock-passed}
 use Rattle.excel97.specs.Steps.{Ready}
 use borrow.Author.Needs.{needs}
-use Rattle.excel97.proofs.Settled.{ready, xor-found, rc4-found, tried, xor-reported, rc4-reported}
+use Rattle.excel97.proofs.Settled.{same-size, ready, xor-found, rc4-found, tried, xor-reported, rc4-reported}
 use Rattle.excel97.proofs.open_locked.Statement.{statement}
 use Rattle.excel97.proofs.open_locked.Tie as tie
 
@@ -45,10 +42,6 @@ returns c =
     tried s (args .password .now) (args .scratch .now) (args .output .now) (start .pre .0) _ _ _ _ _ (at-unlock-xor .unlock-xor .ensures)
     (λ ok. xor-reported s (args .surveyed) (start .pre .1) (xor-found s (args .surveyed) (start .pre .1) (at-enum-told .enum-told .given .1)))
     (c .answer-of .ensures) refl refl
-
--- the scratch after the first 64 bytes were used
-same-size : (w : List ℕ) → 64 ≤ length w → length (replicate 64 0 ++ drop 64 w) ≡ length w
-same-size w h = length-append (replicate 64 0) (drop 64 w) ∙ simp (length-replicate, length-drop) (omega arith)
 
 returns-2 : tie.Need-returns-2
 returns-2 c =

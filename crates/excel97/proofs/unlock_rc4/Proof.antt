@@ -13,10 +13,11 @@ use Rattle.file_params.specs.Questions.{filepassBody, structureOf}
 use Rattle.laws.proofs.Choice.{stop, skip}
 use Rattle.block_keys.specs.BlockKeys.{scheduleOf, blockKey, keystreamAt, startedBlocks}
 use Rattle.block_keys.specs.Lock.{part}
+use Rattle.block_keys.proofs.Schedules.{made, left-zero, schedule-made}
 use Rattle.excel97.proofs.Blanked.{never}
 use borrow.Author.Needs.{needs}
 use Rattle.survey.proofs.Asked.{body-slice}
-use Rattle.excel97.proofs.Unlocked.{structure-slice, plain-left, unlocks-no, unlocks-yes, rc4-told, rc4-plain, keys-in-all, made, left-zero, schedule-made}
+use Rattle.excel97.proofs.Unlocked.{structure-slice, plain-left, unlocks-no, unlocks-yes, rc4-told, rc4-plain, keys-in-all}
 use Rattle.excel97.proofs.unlock_rc4.Statement.{statement}
 use Rattle.excel97.proofs.unlock_rc4.Tie as tie
 
@@ -51,7 +52,7 @@ module _ (c : tie.After-schedule-of) where
   there =
       let start = c .before .before .before .before .before .before .before .before in
       let args = start .args in
-      made (args .lock) _ (args .password .now) (args .scratch .now) _ _ (c .schedule-of .ensures) (start .pre .5) (start .pre .4)
+      made _ _ _ (args .password .now) (args .scratch .now) _ _ (c .schedule-of .ensures) (start .pre .5) (start .pre .4)
 
   schedule-is :
       let start = c .before .before .before .before .before .before .before .before in
@@ -60,7 +61,7 @@ module _ (c : tie.After-schedule-of) where
   schedule-is =
       let start = c .before .before .before .before .before .before .before .before in
       let args = start .args in
-      schedule-made (args .lock) _ (args .password .now) (args .scratch .now) _ _ (c .schedule-of .ensures) (start .pre .5) (start .pre .4)
+      schedule-made _ _ _ (args .password .now) (args .scratch .now) _ _ (c .schedule-of .ensures) (start .pre .5) (start .pre .4)
 
 returns : tie.Need-returns
 returns c = absurd (never (sym (there (c .before .before .before .before)) ∙ not-true _ (c .if1 .taken)))
@@ -74,7 +75,7 @@ returns-2 c =
           (rc4-told (filepassBody (args .stream .now)) (args .password .now) (structure start) (args .lock) _ (start .pre .1) (structure-is start)
           (start .pre .3) (schedule-is at-schedule-of) _ (c .before .verify .ensures)
           ∙ not-true _ (c .if2 .taken)),
-      left-zero (args .lock) _ (args .password .now) (args .scratch .now) _ _ (at-schedule-of .schedule-of .ensures) (start .pre .5) (start .pre .4),
+      left-zero _ _ _ (args .password .now) (args .scratch .now) _ _ (at-schedule-of .schedule-of .ensures) (start .pre .5) (start .pre .4),
       skip _ refl refl,
     )
 
@@ -85,17 +86,17 @@ few n h = omega arith
 
 add-t15 : tie.Need-add-t15
 add-t15 c =
-    let at-unrc4 = c .before .before .before .before .before .before in
-    let start = at-unrc4 .before .before .before .before .before .before .before .before .before .before .before .before .before .before .before .before .before in
-    let told = at-unrc4 .unrc4 .ensures .0 in
+    let at-apply-rc4 = c .before .before .before .before .before .before in
+    let start = at-apply-rc4 .before .before .before .before .before .before .before .before .before .before .before .before .before .before .before .before .before in
+    let told = at-apply-rc4 .apply-rc4 .ensures .counted (start .pre .0 .room) in
     let h = few (length (start .args .stream .now)) (omega (arith, start .good)) in
     omega arith
 
 returns-3 : tie.Need-returns-3
 returns-3 c =
     let at-blank = c .before .before in
-    let at-unrc4 = at-blank .before .before .before .before in
-    let at-if2 = at-unrc4 .before .before in
+    let at-apply-rc4 = at-blank .before .before .before .before in
+    let at-if2 = at-apply-rc4 .before .before in
     let at-verify = at-if2 .before in
     let at-schedule-of = at-verify .before .before .before .before .before .before in
     let start = at-schedule-of .before .before .before .before .before .before .before .before in
@@ -107,12 +108,13 @@ returns-3 c =
           (plain-left (args .stream .now) (args .at) (args .len) (start .pre .0 .found) (args .password .now) (args .output .now) _ _
           (λ (r : BiffRecord) (o x : ℕ). bitXor x (keystreamAt 1024 (blockKey (at-schedule-of .schedule-of .result .schedule)) o)) (start .pre .0 .inside)
           (start .pre .0 .room)
-          (at-unrc4 .unrc4 .ensures .1)
+          (at-apply-rc4 .apply-rc4 .ensures .through .written (start .pre .0 .room))
           (rc4-plain (filepassBody (args .stream .now)) (args .password .now) (structure start) (args .lock) _ (start .pre .1) (structure-is start)
           (start .pre .3) (schedule-is at-schedule-of))
           (at-blank .blank .ensures)),
-      left-zero (args .lock) _ (args .password .now) (args .scratch .now) _ _ (at-schedule-of .schedule-of .ensures) (start .pre .5) (start .pre .4),
-      rw (at-unrc4 .unrc4 .ensures .0) (keys-in-all (filepassBody (args .stream .now)) (args .password .now) (start .pre .1) (length (args .stream .now)) ∙ stop _ refl),
+      left-zero _ _ _ (args .password .now) (args .scratch .now) _ _ (at-schedule-of .schedule-of .ensures) (start .pre .5) (start .pre .4),
+      rw (at-apply-rc4 .apply-rc4 .ensures .counted (start .pre .0 .room))
+          (keys-in-all (filepassBody (args .stream .now)) (args .password .now) (start .pre .1) (length (args .stream .now)) ∙ stop _ refl),
     )
 
 pub unlock-rc4-spec : {M : Type 1} → statement M

@@ -6,6 +6,7 @@ use lib.ListN.{length}
 use borrow.Author.Tests.{not-true, not-false}
 use Rattle.file_params.specs.Questions.{filepassBody}
 use Rattle.sensitive.specs.Ansi.{ansi}
+use Rattle.xor_obfuscation.specs.declared.Way.the-variants.{Decrypt}
 use Rattle.excel97.specs.Open.{xorByte, xorMatches}
 use borrow.Author.Needs.{needs}
 use Rattle.survey.proofs.Asked.{body-slice}
@@ -31,8 +32,8 @@ returns c =
 returns-2 : tie.Need-returns-2
 returns-2 c =
     let at-blank = c .before .before in
-    let at-unxor = at-blank .before .before .before .before in
-    let at-if1 = at-unxor .before .before .before .before in
+    let at-apply-xor = at-blank .before .before .before .before in
+    let at-if1 = at-apply-xor .before .before .before .before in
     let at-try-xor = at-if1 .before .before in
     let start = at-try-xor .before .before .before .before .before in
     let args = start .args in
@@ -40,8 +41,8 @@ returns-2 c =
     unlocks-yes (args .stream .now) (args .password .now) (args .output .now) _
     (xor-passes (filepassBody (args .stream .now)) (args .password .now) (start .pre .1) ∙ sym (at-try-xor .try-xor .ensures .0 ∙ rw b) ∙ not-false _ (at-if1 .if1 .left))
     (plain-left (args .stream .now) (args .at) (args .len) (start .pre .0 .found) (args .password .now) (args .output .now) _ _
-    (xorByte (at-try-xor .try-xor .result .array)) (start .pre .0 .inside) (start .pre .0 .room)
-    (at-unxor .unxor .ensures) (xor-bytes (filepassBody (args .stream .now)) (args .password .now) (start .pre .1) _ (at-try-xor .try-xor .ensures .1))
+    (xorByte Decrypt (at-try-xor .try-xor .result .array)) (start .pre .0 .inside) (start .pre .0 .room)
+    (at-apply-xor .apply-xor .ensures .written (start .pre .0 .room)) (xor-bytes (filepassBody (args .stream .now)) (args .password .now) (start .pre .1) _ (at-try-xor .try-xor .ensures .1))
     (at-blank .blank .ensures))
 
 pub unlock-xor-spec : {M : Type 1} → statement M

@@ -1,4 +1,4 @@
--- `excel97::unxor_record` meets its contract: header and clear part are copied, and what is behind them is deciphered in its place.
+-- `excel97::xor_record` meets its contract: header and clear part are copied, and what is behind them is put through XOR in its place.
 -- Assumes nothing.
 use mathlib.Core.Path.{_≡_, refl, sym, ap, _∙_}
 use Prim.Native.Nat.{ℕ, _+_, _-_, _≤_}
@@ -8,8 +8,8 @@ use Rattle.binary_office.specs.Walk.{clearLen}
 use Rattle.survey.proofs.Records.{clear-within}
 use borrow.Author.Needs.{needs}
 use Rattle.excel97.proofs.Through.{xor-record}
-use Rattle.excel97.proofs.unxor_record.Statement.{statement}
-use Rattle.excel97.proofs.unxor_record.Tie as tie
+use Rattle.excel97.proofs.xor_record.Statement.{statement}
+use Rattle.excel97.proofs.xor_record.Tie as tie
 
 -- the clear part is no longer than the body
 module _ (c : tie.After-clear-len) where
@@ -26,31 +26,31 @@ copy-requires c κs =
     let q = start .pre .1 in
     (search needs, omega arith, omega arith)
 
-sub-decrypt : tie.Need-sub-decrypt
-sub-decrypt c = let h = short (c .before .before .before .before) in omega arith
+sub-transform : tie.Need-sub-transform
+sub-transform c = let h = short (c .before .before .before .before) in omega arith
 
-part-decrypt-start : tie.Need-part-decrypt-start
-part-decrypt-start c = let h = short (c .before .before .before .before) in omega arith
+part-transform-start : tie.Need-part-transform-start
+part-transform-start c = let h = short (c .before .before .before .before) in omega arith
 
-sub-decrypt-2 : tie.Need-sub-decrypt-2
-sub-decrypt-2 c = let h = short (c .before .before .before .before .before) in omega arith
+sub-transform-2 : tie.Need-sub-transform-2
+sub-transform-2 c = let h = short (c .before .before .before .before .before) in omega arith
 
-part-decrypt-start-2 : tie.Need-part-decrypt-start-2
-part-decrypt-start-2 c = let h = short (c .before .before .before .before .before) in omega arith
+part-transform-start-2 : tie.Need-part-transform-start-2
+part-transform-start-2 c = let h = short (c .before .before .before .before .before) in omega arith
 
 returns : tie.Need-returns
 returns c =
-    let at-decrypt = c .before .before in
-    let at-copy = at-decrypt .before .before .before .before .before in
+    let at-transform = c .before .before in
+    let at-copy = at-transform .before .before .before .before .before in
     let at-clear-len = at-copy .before .before in
     let start = at-clear-len .before .before .before in
     let args = start .args in
-    xor-record (args .stream .now) (args .array .now) (args .output .now) _ _ (args .at) (args .id) (args .len) (at-clear-len .clear-len .result) _ _
+    xor-record (args .way) (args .stream .now) (args .array .now) (args .output .now) _ _ (args .at) (args .id) (args .len) (at-clear-len .clear-len .result) _ _
     (start .pre .0) (start .pre .1)
-    (at-clear-len .clear-len .ensures) refl refl (at-copy .copy .ensures) (at-decrypt .decrypt .ensures)
+    (at-clear-len .clear-len .ensures) refl refl (at-copy .copy .ensures) (at-transform .transform .ensures)
 
-pub unxor-record-spec : {M : Type 1} → statement M
-unxor-record-spec =
+pub xor-record-spec : {M : Type 1} → statement M
+xor-record-spec =
     tie.close
     (tie.spec
     (λ c κs. search needs)
@@ -61,11 +61,11 @@ unxor-record-spec =
     (λ c. search needs)
     copy-requires
     (λ c. search needs)
-    sub-decrypt
-    part-decrypt-start
+    sub-transform
+    part-transform-start
     (λ c. search needs)
-    sub-decrypt-2
-    part-decrypt-start-2
+    sub-transform-2
+    part-transform-start-2
     (λ c. search needs)
     (λ c κs. search needs)
     (λ c. search needs)

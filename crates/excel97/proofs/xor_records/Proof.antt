@@ -1,36 +1,37 @@
--- `excel97::unxor` meets its contract: the records up to the offset are written, and at the end the padding.
+-- `excel97::xor_records` meets its contract: the records up to the offset are written, and behind them what is left of the stream.
 -- Assumes nothing.
 use mathlib.Core.Path.{sym, _∙_}
 use Prim.Native.Nat.{_-_}
 use native.Mathlib.Omega.{arith}
 use lib.ListN.{length}
 use Rattle.laws.proofs.Written.{Written, written-none}
+use Rattle.binary_office.proofs.Along.{records-end, records-fault}
 use Rattle.binary_office.proofs.Walks.{record-within}
 use Rattle.excel97.specs.Open.{xorByte}
 use Rattle.excel97.specs.Steps.{throughAt}
-use Rattle.excel97.proofs.Records.{Reached, reached-none, reached-on, reached-fault}
+use Rattle.excel97.proofs.Records.{Reached, reached-none, reached-on}
 use borrow.Author.Needs.{needs}
 use Rattle.excel97.proofs.Through.{through-record, through-rest}
-use Rattle.excel97.proofs.unxor.Statement.{statement}
-use Rattle.excel97.proofs.unxor.Tie as tie
+use Rattle.excel97.proofs.xor_records.Statement.{statement}
+use Rattle.excel97.proofs.xor_records.Tie as tie
 
 abbrev Inv-loop : tie.InvT-loop
-Inv-loop stream array output₀ at₀ output at = Reached stream at × Written (throughAt stream (xorByte array)) 0 at output₀ output
+Inv-loop way stream array output₀ at₀ output at = Reached stream at × Written (throughAt stream (xorByte way array)) 0 at output₀ output
 
 abbrev μ-loop : tie.MeasureT-loop
-μ-loop stream array output₀ at₀ output at = length stream - at
+μ-loop way stream array output₀ at₀ output at = length stream - at
 
 loop-holds : tie.Need-loop-holds Inv-loop μ-loop
 loop-holds c = (reached-none _, written-none _ _ _)
 
-unxor-record-requires : tie.Need-unxor-record-requires Inv-loop μ-loop
-unxor-record-requires c κs =
+xor-record-requires : tie.Need-xor-record-requires Inv-loop μ-loop
+xor-record-requires c κs =
     let at-id = c .before .before in
     let at-step-at = at-id .before .before in
     let at-loop = at-step-at .before in
     let start = at-loop .before .before .before in
     let w = at-loop .loop .inv .1 .same in
-    let p = start .pre .1 in
+    let p = start .pre in
     (record-within (start .args .stream .now) (at-loop .loop .at) _ _ (sym (at-step-at .step-at .ensures) ∙ at-id .id .given .1), omega arith)
 
 loop-less : tie.Need-loop-less Inv-loop μ-loop
@@ -44,8 +45,8 @@ loop-less c =
 
 loop-again : tie.Need-loop-again Inv-loop μ-loop
 loop-again c =
-    let at-unxor-record = c .before .before in
-    let at-id = at-unxor-record .before .before .before in
+    let at-xor-record = c .before .before in
+    let at-id = at-xor-record .before .before .before in
     let at-step-at = at-id .before .before in
     let at-loop = at-step-at .before in
     let loop = at-loop .loop in
@@ -53,20 +54,9 @@ loop-again c =
     let args = start .args in
     let e = sym (at-step-at .step-at .ensures) ∙ at-id .id .given .1 in (
       reached-on (args .stream .now) (loop .at) _ _ (loop .inv .0) e,
-      through-record (args .stream .now) (xorByte (args .array .now)) (loop .at) _ _ (loop .inv .0) e (args .output .now) (loop .output) _ (loop .inv .1)
-          (at-unxor-record .unxor-record .ensures),
+      through-record (args .stream .now) (xorByte (args .way) (args .array .now)) (loop .at) _ _ (loop .inv .0) e (args .output .now) (loop .output) _ (loop .inv .1)
+          (at-xor-record .xor-record .ensures),
     )
-
-same-length : tie.Need-same-length Inv-loop μ-loop
-same-length c = c .before .before .before .loop .inv .1 .same
-
-returns : tie.Need-returns Inv-loop μ-loop
-returns c =
-    let at-step-at = c .before .before in
-    let at-loop = at-step-at .before in
-    let start = at-loop .before .before .before in
-    absurd (reached-fault (start .args .stream .now) (at-loop .loop .at) (at-loop .loop .inv .0) _ (sym (at-step-at .step-at .ensures) ∙ c .enum-told .given .1)
-    (start .pre .0))
 
 copy-requires : tie.Need-copy-requires Inv-loop μ-loop
 copy-requires c κs =
@@ -74,7 +64,35 @@ copy-requires c κs =
     let start = at-loop .before .before .before in
     let i = at-loop .loop .inv .0 .inside in
     let w = at-loop .loop .inv .1 .same in
-    let p = start .pre .1 in
+    let p = start .pre in
+    (omega arith, omega arith, omega arith)
+
+same-length : tie.Need-same-length Inv-loop μ-loop
+same-length c =
+    let at-copy = c .before .before in
+    let at-enum-told = at-copy .before .before in
+    let at-loop = at-enum-told .before .before .before in
+    at-copy .copy .ensures .same ∙ at-loop .loop .inv .1 .same
+
+returns : tie.Need-returns Inv-loop μ-loop
+returns c =
+    let at-copy = c .before .before in
+    let at-enum-told = at-copy .before .before in
+    let at-step-at = at-enum-told .before .before in
+    let at-loop = at-step-at .before in
+    let loop = at-loop .loop in
+    let start = at-loop .before .before .before in
+    let fault = sym (at-step-at .step-at .ensures) ∙ at-enum-told .enum-told .given .1 in
+    through-rest (start .args .stream .now) (xorByte (start .args .way) (start .args .array .now)) (loop .at) (loop .inv .0)
+    (records-fault (start .args .stream .now) (loop .at) _ fault) (start .args .output .now) (loop .output) _ (loop .inv .1) (at-copy .copy .ensures)
+
+copy-requires-2 : tie.Need-copy-requires-2 Inv-loop μ-loop
+copy-requires-2 c κs =
+    let at-loop = c .before .before .before .before in
+    let start = at-loop .before .before .before in
+    let i = at-loop .loop .inv .0 .inside in
+    let w = at-loop .loop .inv .1 .same in
+    let p = start .pre in
     (omega arith, omega arith, omega arith)
 
 same-length-2 : tie.Need-same-length-2 Inv-loop μ-loop
@@ -82,7 +100,7 @@ same-length-2 c =
     let at-copy = c .before .before in
     let at-enum-told = at-copy .before .before in
     let at-loop = at-enum-told .before .before .before in
-    at-copy .copy .ensures .same ∙ at-loop .loop .inv .1 .same
+    at-copy .copy2 .ensures .same ∙ at-loop .loop .inv .1 .same
 
 returns-2 : tie.Need-returns-2 Inv-loop μ-loop
 returns-2 c =
@@ -92,12 +110,12 @@ returns-2 c =
     let at-loop = at-step-at .before in
     let loop = at-loop .loop in
     let start = at-loop .before .before .before in
-    through-rest (start .args .stream .now) (xorByte (start .args .array .now)) (loop .at) (loop .inv .0)
-    (sym (at-step-at .step-at .ensures) ∙ at-enum-told .enum-told2 .given .1) (start .args .output .now) (loop .output) _ (loop .inv .1)
-    (at-copy .copy .ensures)
+    let end = sym (at-step-at .step-at .ensures) ∙ at-enum-told .enum-told2 .given .1 in
+    through-rest (start .args .stream .now) (xorByte (start .args .way) (start .args .array .now)) (loop .at) (loop .inv .0)
+    (records-end (start .args .stream .now) (loop .at) end) (start .args .output .now) (loop .output) _ (loop .inv .1) (at-copy .copy2 .ensures)
 
-pub unxor-spec : {M : Type 1} → statement M
-unxor-spec =
+pub xor-records-spec : {M : Type 1} → statement M
+xor-records-spec =
     tie.close
     (tie.spec
     Inv-loop
@@ -105,16 +123,17 @@ unxor-spec =
     loop-holds
     (λ c κs. search needs)
     (λ c. search needs)
-    unxor-record-requires
+    xor-record-requires
     (λ c. search needs)
     (λ c. search needs)
     (λ c. search needs)
     loop-less
     loop-again
     (λ c. search needs)
+    copy-requires
     same-length
     returns
     (λ c. search needs)
-    copy-requires
+    copy-requires-2
     same-length-2
     returns-2)
