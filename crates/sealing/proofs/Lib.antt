@@ -1,0 +1,15 @@
+pub mod Bodies
+pub mod Locked
+pub mod Outcome
+pub mod Places
+pub mod Proved
+pub mod Puts
+pub mod Rc4Fields
+pub mod Reading
+pub mod RoundTrips
+pub mod Runs
+pub mod Sealed
+pub mod Settled
+pub mod TwoPasswords
+pub mod Undone
+pub mod ZeroRecords

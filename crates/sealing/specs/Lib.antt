@@ -1,0 +1,4 @@
+pub mod Filepass
+pub mod Seal
+pub mod Steps
+pub mod Theorems
