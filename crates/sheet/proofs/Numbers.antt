@@ -40,6 +40,9 @@ positive (refusal.VerifierHashSize got) = refl
 positive refusal.WrongPassword = refl
 positive (refusal.BoundSheetStart offset) = refl
 positive (refusal.BofEofUnpaired offset) = refl
+positive refusal.ZeroRecordMissing = refl
+positive (refusal.ZeroRecordLength len) = refl
+positive refusal.XorPasswordUnfit = refl
 
 pub at-least-one : (r : Refusal) → 1 ≤ number r
 at-least-one r = leb-true 1 (number r) (positive r)

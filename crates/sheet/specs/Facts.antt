@@ -32,6 +32,10 @@ use Rattle.directory.specs.declared.Answer.the-variants as answer
 use Rattle.forecast.specs.declared.Counts.{Counts}
 use Rattle.forecast.specs.declared.Answer as forecast
 use Rattle.forecast.specs.declared.Answer.the-variants as foretold
+use Rattle.sealing.specs.declared.Choice.{Choice}
+use Rattle.sealing.specs.declared.Answer as sealing
+use Rattle.sealing.specs.declared.Answer.the-variants as closed
+use Rattle.sealing.specs.Seal.{outcome}
 
 -- true is 1
 abbrev pub flag : Bool → ℕ
@@ -131,3 +135,15 @@ pub record OpensInCWith (need : ℕ) (stream password scratch output : List ℕ)
 -- what `sheet_open` answers and leaves
 abbrev pub OpensInC : (stream password scratch output : List ℕ) → (number : ℕ) → (scratch′ output′ facts′ : List ℕ) → Type 0
 OpensInC = OpensInCWith scratchNeed
+
+-- sealing: as Open, since "Success reports what opening the sealed stream would" (document 02, T-07)
+abbrev pub asOpened : sealing.Answer → Answer
+asOpened (closed.Sealed r) = Opened r
+asOpened (closed.Refused r) = Refused r
+
+-- what the three functions that seal answer and leave
+pub record SealsInC (plain password : List ℕ) (choice : Choice) (salt verifier scratch output : List ℕ) (number : ℕ) (scratch′ output′ facts′ : List ℕ) : Type 0 where
+  pub answered : number ≡ openNumber (asOpened (outcome plain password choice salt verifier scratch output .answer))
+  pub told : facts′ ≡ openFacts (asOpened (outcome plain password choice salt verifier scratch output .answer))
+  pub scratch-left : scratch′ ≡ outcome plain password choice salt verifier scratch output .scratch
+  pub output-left : output′ ≡ outcome plain password choice salt verifier scratch output .output

@@ -6,7 +6,9 @@ ghost use Rattle.binary_office.specs.Walk.{stepAt};
 ghost use Rattle.binary_office.specs.Look.{look, sameLock};
 ghost use Rattle.directory.specs.Directory.{directory};
 ghost use Rattle.forecast.specs.Forecast.{forecast};
-ghost use Rattle.sheet.specs.Facts.{flag, facts, lookNumber, lookFacts, recordNumber, recordFacts, startFacts, refusalFacts, directoryNumber, directoryFacts, forecastNumber, forecastFacts, bitsOf, thereOf, majorOf, minorOf, lockNumber, openNumber, openFacts, OpensInC};
+ghost use Rattle.sheet.specs.Facts.{flag, facts, lookNumber, lookFacts, recordNumber, recordFacts, startFacts, refusalFacts, directoryNumber, directoryFacts, forecastNumber, forecastFacts, bitsOf, thereOf, majorOf, minorOf, lockNumber, openNumber, openFacts, OpensInC, asOpened, SealsInC};
+ghost use lib.ListN.{replicate};
+ghost use Rattle.sealing.specs.declared.Choice.the-variants as choice;
 
 // True is 1.
 fn flag(b: bool) -> u64
@@ -276,4 +278,114 @@ pub extern "C" fn sheet_open(
     let answer = excel97::open(stream, password, scratch, output);
     *told = open_facts(answer);
     open_number(answer)
+}
+
+// What came of sealing, as opening would tell it.
+fn as_opened(answer: sealing::Answer) -> excel97::Answer
+    ensures { λ r. ⌜ r ≡ asOpened answer ⌝ }
+{
+    match answer {
+        sealing::Answer::Sealed(report) => excel97::Answer::Opened(report),
+        sealing::Answer::Refused(refusal) => excel97::Answer::Refused(refusal),
+    }
+}
+
+// Sealing under a choice, with the facts of its answer.
+fn seal(
+    plain: &[u8],
+    password: &[u8],
+    choice: sealing::Choice,
+    salt: [u8; 16],
+    verifier: [u8; 16],
+    scratch: &mut [u8],
+    output: &mut [u8],
+    told: &mut [u64; 8],
+) -> u32
+    ensures { λ r. ⌜ SealsInC (now (plain .entry)) (now (password .entry)) choice salt verifier (now (scratch .entry)) (now (output .entry)) r (now (scratch .exit)) (now (output .exit)) (now (told .exit)) ⌝ }
+{
+    let sealed = sealing::seal(plain, password, choice, salt, verifier, scratch, output);
+    let answer = as_opened(sealed);
+    *told = open_facts(answer);
+    open_number(answer)
+}
+
+// Sealing under XOR, which has neither salt nor verifier.
+#[no_mangle]
+pub extern "C" fn sheet_seal_xor(
+    plain: &[u8],
+    password: &[u8],
+    scratch: &mut [u8],
+    output: &mut [u8],
+    told: &mut [u64; 8],
+) -> u32
+    ensures { λ r. ⌜ SealsInC (now (plain .entry)) (now (password .entry)) choice.Xor (replicate 16 0) (replicate 16 0) (now (scratch .entry)) (now (output .entry)) r (now (scratch .exit)) (now (output .exit)) (now (told .exit)) ⌝ }
+{
+    let none = [0u8; 16];
+    seal(
+        plain,
+        password,
+        sealing::Choice::Xor,
+        none,
+        none,
+        scratch,
+        output,
+        told,
+    )
+}
+
+// Sealing under 1.1.
+#[no_mangle]
+pub extern "C" fn sheet_seal_office97(
+    plain: &[u8],
+    password: &[u8],
+    salt: &[u8; 16],
+    verifier: &[u8; 16],
+    scratch: &mut [u8],
+    output: &mut [u8],
+    told: &mut [u64; 8],
+) -> u32
+    ensures { λ r. ⌜ SealsInC (now (plain .entry)) (now (password .entry)) choice.Office97 (now (salt .entry)) (now (verifier .entry)) (now (scratch .entry)) (now (output .entry)) r (now (scratch .exit)) (now (output .exit)) (now (told .exit)) ⌝ }
+{
+    let salt = *salt;
+    let verifier = *verifier;
+    seal(
+        plain,
+        password,
+        sealing::Choice::Office97,
+        salt,
+        verifier,
+        scratch,
+        output,
+        told,
+    )
+}
+
+// Sealing under CryptoAPI.
+#[no_mangle]
+pub extern "C" fn sheet_seal_cryptoapi(
+    plain: &[u8],
+    password: &[u8],
+    salt: &[u8; 16],
+    verifier: &[u8; 16],
+    major: u16,
+    key_size: u32,
+    scratch: &mut [u8],
+    output: &mut [u8],
+    told: &mut [u64; 8],
+) -> u32
+    ensures { λ r. ⌜ SealsInC (now (plain .entry)) (now (password .entry)) (choice.CryptoApi major «key_size») (now (salt .entry)) (now (verifier .entry)) (now (scratch .entry)) (now (output .entry)) r (now (scratch .exit)) (now (output .exit)) (now (told .exit)) ⌝ }
+{
+    let salt = *salt;
+    let verifier = *verifier;
+    let choice = sealing::Choice::CryptoApi(major, key_size);
+    seal(
+        plain,
+        password,
+        choice,
+        salt,
+        verifier,
+        scratch,
+        output,
+        told,
+    )
 }
