@@ -31,17 +31,39 @@ def clear_of(number, length):
     return length if number in SEVEN else min(4, length) if number == BOUND_SHEET else 0
 
 
+def some(length, seed):
+    """So many bytes that differ from their neighbours."""
+    return bytes((seed + 37 * k + (k >> 5)) % 256 for k in range(length))
+
+
+def characters(count, first=0x21, room=94):
+    """So many characters, all from `first` on and below `first + room`: of one byte each where none is named. In UTF-16LE no two of its blocks are equal."""
+    made = "".join(chr(first + 1009 * k % room) for k in range(count))
+    data = made.encode("utf-16-le")
+    for start in 0, 48:
+        blocks = [data[at:at + 64] for at in range(start, len(data), 64)]
+        assert len(set(blocks)) == len(blocks)
+    return made
+
+
+# passwords of 1,024 bytes, of characters of one byte, of two, of three, and of four
+LONGEST = characters(1024), characters(512, 0x80, 0x780), characters(341, 0x800, 0xD000) + "p", characters(256, 0x10000, 0x100000)
+
+
 class Rc4:
     """An RC4 lock: how it hashes, the key of a block, and the FILEPASS body. `derived` is how many block keys were derived so far, and `enciphered` how many
     bytes of bodies were."""
     derived = enciphered = 0
+
+    def __init__(self, salt=SALT, verifier=VERIFIER):
+        self.salt, self.verifier = salt, verifier
 
     def keyed(self, password, block, data):
         self.derived += 1
         return rc4(self.key(password, block), data)
 
     def filepass(self, password):
-        return self.body(self.keyed(password, 0, VERIFIER + self.digest(VERIFIER).digest()))
+        return self.body(self.keyed(password, 0, self.verifier + self.digest(self.verifier).digest()))
 
     def seal(self, stream, password):
         return b"".join(self.keyed(password, at // 1024, stream[at:at + 1024]) for at in range(0, len(stream), 1024))
@@ -52,30 +74,32 @@ class Office97(Rc4):
 
     def key(self, password, block):
         first = hashlib.md5(password.encode("utf-16-le")).digest()[:5]
-        second = hashlib.md5((first + SALT) * 16).digest()[:5]
+        second = hashlib.md5((first + self.salt) * 16).digest()[:5]
         return hashlib.md5(second + struct.pack("<I", block)).digest()
 
     def body(self, check):
-        return struct.pack("<HHH", 1, 1, 1) + SALT + check
+        return struct.pack("<HHH", 1, 1, 1) + self.salt + check
 
 
 class CryptoApi(Rc4):
     number, digest = 2, hashlib.sha1
 
-    def __init__(self, bits=128, stated=None, major=2, flags=0x0C, algorithm=0x6801, hashing=0x8004, name="Provider".encode("utf-16-le"), size=None):
+    def __init__(self, bits=128, stated=None, major=2, flags=0x0C, algorithm=0x6801, hashing=0x8004, name="Provider".encode("utf-16-le"), size=None, **own):
+        super().__init__(**own)
         self.bits, self.stated, self.major, self.flags = bits, bits if stated is None else stated, major, flags
         self.algorithm, self.hashing, self.name, self.size = algorithm, hashing, name, size
         self.sealed = 0 if flags & 8 else 1
 
     def key(self, password, block):
-        h0 = hashlib.sha1(SALT + password.encode("utf-16-le")).digest()
+        h0 = hashlib.sha1(self.salt + password.encode("utf-16-le")).digest()
         key = hashlib.sha1(h0 + struct.pack("<I", block)).digest()[:self.bits // 8]
         return key + bytes(11) if self.bits == 40 else key
 
     def body(self, check):
         header = struct.pack("<8I", self.flags, 0, self.algorithm, self.hashing, self.stated, 1, 0, 0) + self.name
         size = len(header) if self.size is None else self.size
-        return struct.pack("<HHHII", 1, self.major, 2, self.flags, size) + header + struct.pack("<I", 16) + SALT + check[:16] + struct.pack("<I", 20) + check[16:]
+        verifier = struct.pack("<I", 16) + self.salt + check[:16] + struct.pack("<I", 20) + check[16:]
+        return struct.pack("<HHHII", 1, self.major, 2, self.flags, size) + header + verifier
 
 
 class Xor:
@@ -118,3 +142,15 @@ def book(lock, password, records):
         plain += record(0, bytes(len(body))) if k == first else joined[at:end]
         at = end
     return locked, plain
+
+
+def reported(lock, password, records, padding=0):
+    """A locked stream and its plain one, as many zeros behind both, and what Open reports of it: the counts are those of locking it. A block that is of padding
+    alone has a key too, under RC4."""
+    derived, enciphered = lock.derived, lock.enciphered
+    locked, plain = book(lock, password, records)
+    length, keys = len(locked) + padding, lock.derived - derived
+    if keys:
+        keys += sum(at % 1024 == 0 for at in range(len(locked), length))
+    told = len(records), lock.number, lock.bits, lock.sealed, length, lock.enciphered - enciphered, keys
+    return locked + bytes(padding), plain + bytes(padding), told

@@ -16,7 +16,7 @@ import random
 import re
 import struct
 
-from books import BOF, BOUND_SHEET, EOF, FILEPASS, CryptoApi, Office97, Xor, book, record
+from books import BOF, BOUND_SHEET, EOF, FILEPASS, CryptoApi, Office97, Xor, book, record, some
 
 B, E = record(BOF), record(EOF)
 OTHER = record(0x0042, b"\xb0\x04")
@@ -248,10 +248,6 @@ def offsets(records):
     records = [(r[0], bytes(4) + r[2], r[1]) if len(r) == 3 else (*r, None) for r in records]
     at = [0, *itertools.accumulate(4 + len(body) for _, body, _ in records)]
     return [(number, body if named is None else struct.pack("<I", at[named]) + body[4:]) for number, body, named in records], at
-
-
-def some(length, seed):
-    return bytes((seed + 37 * k + (k >> 5)) % 256 for k in range(length))
 
 
 def both(name, lock, password, records, expected, rest=b""):

@@ -16,7 +16,7 @@ import itertools
 import pathlib
 import struct
 
-from books import BOF, BOUND_SHEET, EOF, FILEPASS, SEVEN, CryptoApi, Office97, Xor, book, clear_of, record
+from books import BOF, BOUND_SHEET, EOF, FILEPASS, LONGEST, SEVEN, CryptoApi, Office97, Xor, book, characters, clear_of, record, reported, some
 
 B = record(BOF)
 XOR = Xor()
@@ -97,14 +97,9 @@ def case(name, stream, password, number, facts=(), plain=None, scratch=SCRATCH +
 
 
 def opened(name, lock, password, records, padding=0, **rest):
-    """A book that opens, with its report, and as many zeros behind both streams. A block that is of padding alone has a key too, under RC4."""
-    derived, enciphered = lock.derived, lock.enciphered
-    stream, plain = book(lock, password, records)
-    length, keys = len(stream) + padding, lock.derived - derived
-    if keys:
-        keys += sum(at % 1024 == 0 for at in range(len(stream), length))
-    took = length, lock.enciphered - enciphered, keys
-    case(name, stream + bytes(padding), password, 0, (len(records), lock.number, lock.bits, lock.sealed, *took), plain + bytes(padding), **rest)
+    """A book that opens, with its report, and as many zeros behind both streams."""
+    stream, plain, told = reported(lock, password, records, padding)
+    case(name, stream, password, 0, told, plain, **rest)
 
 
 SMALL = [(BOF, bytes(4)), (FILEPASS, b""), (0x0042, b"\xb0\x04"), (EOF, b"")]
@@ -168,23 +163,12 @@ OLD = Office97().filepass("A")
 refused("1.1, bytes 30 to 33 zero", B + record(FILEPASS, OLD[:30] + bytes(4) + OLD[34:]), 27)
 
 
-def characters(count, first=0x21, room=94):
-    """So many characters, all from `first` on and below `first + room`: of one byte each where none is named. In UTF-16LE no two of its blocks are equal."""
-    made = "".join(chr(first + 1009 * k % room) for k in range(count))
-    data = made.encode("utf-16-le")
-    for start in 0, 48:
-        blocks = [data[at:at + 64] for at in range(start, len(data), 64)]
-        assert len(set(blocks)) == len(blocks)
-    return made
-
-
 def changed(password):
     """The same but for the last character, which has as many bytes."""
     return password[:-1] + chr(ord(password[-1]) ^ 1)
 
 
 # 1: the password's length, under each lock. In UTF-16LE the longest have up to 2,048 bytes, which a scratch of 64 can't hold at once
-LONGEST = characters(1024), characters(512, 0x80, 0x780), characters(341, 0x800, 0xD000) + "p", characters(256, 0x10000, 0x100000)
 assert [len(longest.encode("utf-16-le")) for longest in LONGEST] == [2048, 1024, 684, 1024]
 assert all(len(longest.encode()) == len(changed(longest).encode()) == 1024 for longest in LONGEST)
 SCRATCHES = 64, 65, 2064, 2070
@@ -369,10 +353,6 @@ for at in range(2, 6):
     refused(f"XOR, a bit of byte {at} turned", B + record(FILEPASS, bytes(body)), 27, password=XOR.passwords(8)[0])
 refused("XOR, sixteen characters", XOR_BOOK, 27, password="A" * 16)
 refused("XOR, a character above U+00FF", XOR_BOOK, 27, password="Ā")
-
-
-def some(length, seed):
-    return bytes((seed + 37 * k + (k >> 5)) % 256 for k in range(length))
 
 
 # more than three blocks: bodies and headers over block ends, BoundSheet8 of every clear length, a second FILEPASS, all seven ids before and after the lock
