@@ -9,13 +9,15 @@ mod paper;
 mod port;
 mod random;
 mod sample;
+mod sealed;
 mod selfcheck;
 mod sweeps;
 
 use compare::Compare;
 use std::process::ExitCode;
 
-const USAGE: &str = "usage: differ run SEED CASES | differ large | differ sample COUNT | differ speed | differ growth";
+const USAGE: &str =
+    "usage: differ run SEED CASES | differ large | differ sealed FILE.. | differ xor PASSWORD.. | differ sample COUNT | differ speed | differ growth";
 
 /// The fixed cases, then this many random ones.
 fn run(seed: u64, cases: u64) -> bool {
@@ -37,6 +39,8 @@ fn main() -> ExitCode {
     let sound = match arguments.iter().map(String::as_str).collect::<Vec<_>>()[..] {
         ["run", seed, cases] => run(number(seed), number(cases)),
         ["large"] => large::large(),
+        ["sealed", ref files @ ..] => sealed::run(files),
+        ["xor", ref passwords @ ..] => sealed::xor(passwords),
         ["sample", count] => sample::write(number(count) as usize),
         ["speed"] => large::speed(),
         ["growth"] => large::growth(),

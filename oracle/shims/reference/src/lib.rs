@@ -1,4 +1,4 @@
-//! Stands in for the crate's own lib.rs: names the source's files that are built unchanged, and opens two doors into them: `look` and `Container`.
+//! Stands in for the crate's own lib.rs: names the source's files that are built unchanged, and opens three doors into them: `look`, `Container` and `xor`.
 //! Left out: every other file of the crate, and with them its public functions.
 #![allow(dead_code, irrefutable_let_patterns, clippy::all)]
 
@@ -49,6 +49,18 @@ pub fn look(container: &[u8]) -> Option<Verdict> {
         key_bits: verdict.key_bits,
         xor_obfuscated: verdict.xor_obfuscated,
     })
+}
+
+/// The key, the verifier and the array of an XOR password: the key is the one that `verify` takes, and the array what zeros are deciphered to, rotated
+/// back. None where the source takes no such password.
+pub fn xor(password: &str) -> Option<(u16, u16, [u8; 16])> {
+    let obfuscator = xor_obfuscation::XorObfuscator::new(password).ok()?;
+    let bytes: Vec<u8> = password.chars().map(|c| c as u8).collect();
+    let verifier = xor_obfuscation::password_verifier(&bytes);
+    let key = (0..=u16::MAX).find(|key| obfuscator.verify(*key, verifier).is_ok())?;
+    let mut array = [0; 16];
+    obfuscator.decrypt(&mut array, 0);
+    Some((key, verifier, array.map(|byte: u8| byte.rotate_left(5))))
 }
 
 /// A `LegacyContainer`, to be decrypted and read back.
