@@ -1,11 +1,12 @@
-/* Protected Excel 97-2003 workbook streams: looking, the directory of sheets, forecasting what opening takes, and opening.
+/* Protected Excel 97-2003 workbook streams: looking, the directory of sheets, forecasting what opening takes, opening, and
+ * sealing.
  *
  * libsheet.a has no heap, no operating system and no global state. It reads and writes only what the caller
  * lends, and every function is proved to end, to do nothing undefined and to answer what the definitions in the crates'
  * specs/ say (docs/TRUST.md lists them), for every argument that follows these rules:
  *
  *   - A pointer with a length points to that many bytes. A length of 0 goes with any pointer but NULL.
- *   - facts points to eight numbers.
+ *   - facts points to eight numbers; salt and verifier point to 16 bytes each.
  *   - What is written (scratch, output, facts) overlaps nothing else that is passed to the same call.
  *   - No other thread writes to what is lent while a call runs. Calls on different memory may run at once.
  *
@@ -23,7 +24,7 @@
 extern "C" {
 #endif
 
-/* The bytes of scratch that sheet_open asks for, and the most bytes of a password. */
+/* The bytes of scratch that opening and sealing ask for, and the most bytes of a password. */
 #define SHEET_SCRATCH_LEN 64
 #define SHEET_PASSWORD_MAX_LEN 1024
 
@@ -44,7 +45,7 @@ extern "C" {
  *  10  the FILEPASS record is cut off                                 (bytes there, bytes needed)
  *  11  the FILEPASS record names no lock that is known                (its type)
  *  12  the lock's version is cut off                                  (bytes there, 4)
- *  13  the lock's version is not one that is read                     (major, minor)
+ *  13  the lock's version is not one that is read or sealed           (major, minor)
  *  14  the 1.1 lock is cut off                                        (bytes there, 52)
  *  15  the CryptoAPI lock is cut off                                  (bytes there, 12)
  *  16  its header's size is not 32 to 1,024                           (the size)
@@ -54,7 +55,8 @@ extern "C" {
  *  20  it does not say CryptoAPI (flag 0x04)                          (the flags)
  *  21  its cipher is not RC4                                          (AlgID)
  *  22  its hash is not SHA-1                                          (AlgIDHash)
- *  23  its key size is not 0, nor 40 to 128 in steps of 8             (the size in bits)
+ *  23  its key size is not 0, nor 40 to 128 in steps of 8; sealing    (the size in bits)
+ *      does not take 0 either
  *  24  its verifier is cut off                                        (bytes there, 60)
  *  25  its salt is not 16 bytes                                       (the size)
  *  26  its verifier's hash is not 20 bytes                            (the size)
@@ -62,7 +64,11 @@ extern "C" {
  *  28  a sheet's entry names no sheet: a BoundSheet8 record's body    (the offset of the BoundSheet8 record's header)
  *      is shorter than 4 bytes, or the start in it is no BOF record's header
  *  29  BOF and EOF records do not pair up                             (the offset of the header of an EOF record with no
- *      BOF open; or, if a BOF is left open at the end, the stream's length, padding included) */
+ *      BOF open; or, if a BOF is left open at the end, the stream's length, padding included)
+ *  30  there is no zero record to put the lock in, or a FILEPASS record stands before it
+ *  31  the zero record's body does not have a length that fits the    (the length)
+ *      lock: 6 bytes for XOR, 54 for 1.1, 106 to 1,098 for CryptoAPI
+ *  32  the password is not one that XOR takes: 1 to 15 characters, none above U+00FF */
 
 /* Whether a workbook is locked, by its first 1,048,576 bytes at most.
  *
@@ -169,8 +175,8 @@ uint32_t sheet_forecast(const uint8_t *stream, size_t stream_len, uint64_t facts
  * stack frames and in registers, of which no proof can speak once the call has returned. A host that minds should
  *
  *   - call sheet_open from a function that is not inlined, and then, from the same caller, a second one that is not
- *     inlined and overwrites a local array of 16 KiB through a pointer to volatile. A call was measured to go 3,136
- *     bytes deep, and under 5,800 where the dynamic linker binds memcpy or memset during it;
+ *     inlined and overwrites a local array of 16 KiB through a pointer to volatile. A call was measured to go less than
+ *     4,400 bytes deep, and less than 6,500 where the dynamic linker binds memcpy or memset during it;
  *   - link with -z now, or clear the vector registers after the call (vzeroall, and zmm16 to zmm31 where there are
  *     any): parts of the tables, and under XOR of the array, are left there, and a function bound at its first call,
  *     or a signal handled on the same stack, saves them to the stack;
@@ -179,6 +185,66 @@ uint32_t sheet_forecast(const uint8_t *stream, size_t stream_len, uint64_t facts
  * host/examples/embed.c does this. */
 uint32_t sheet_open(const uint8_t *stream, size_t stream_len, const uint8_t *password, size_t password_len, uint8_t *scratch,
                     size_t scratch_len, uint8_t *output, size_t output_len, uint64_t facts[8]);
+
+/* Sealing: a plain workbook stream put under a password, by one function for each lock.
+ *
+ * The lock goes into a zero record: its id is 0, its body has no byte but 0, and every record before it has one of the ids
+ * 0x0809, 0x00E1, 0x0138, 0x0194, 0x0195 and 0x0196. So it is the first record with any other id, or there is none (30). A
+ * stream that sheet_open gave has one where its FILEPASS record stood. The sealed stream has the length of the plain one:
+ * the zero record becomes a FILEPASS record of the same length, every other body is enciphered but for what sheet_record
+ * tells as clear, and headers and padding stay as they are. A FILEPASS record behind the zero record is no obstacle, and
+ * stays as it is too. sheet_open with the same password is proved to give the plain stream again, bit for bit.
+ *
+ * The password is UTF-8, without a terminating zero. All eight facts are written, whatever the answer.
+ *
+ * Answers 0 if the stream was sealed. Then output[0 .. plain_len) is the sealed stream and the rest of the output is as it
+ * was; the facts are those that sheet_open gives when it opens the sealed stream.
+ *
+ * Any other answer is a refusal: the output is as it was, facts[0] and facts[1] are its two details, and the other facts
+ * are 0. On 1 to 5 the scratch is as it was; otherwise its first 64 bytes are zero afterwards, on success too, and the rest
+ * is as it was. The checks of each function stand with it, and the first that fails is told. Of 4 to 7 the stream is the
+ * plain one.
+ *
+ * The salt and the verifier are 16 bytes each. Both must be fresh for each sealing, from a random source that nobody can
+ * foretell (getentropy, /dev/urandom): never fixed, counted, or taken from another sheet. The salt stands in the sealed
+ * stream as it is. The verifier is given plain, and the function enciphers it and its digest. If they are not fresh, the
+ * sheet opens as before, but:
+ *
+ *   - The same password and salt give the same keystream (with one lock and key size). At every offset where two sheets
+ *     that are sealed so are both enciphered, their exclusive-or is that of their plain streams, from which most of both can
+ *     be worked out, without any password.
+ *   - Who knows the verifier knows the first bytes of the keystream of block 0: 32 of them under 1.1, 36 under CryptoAPI.
+ *
+ * XOR, 1.1, and CryptoAPI with 40 bits do not protect a sheet from anyone who tries: under XOR the sealed stream itself
+ * gives away what it was enciphered with, and a key of 40 bits is found by trying them all, whatever the password is. They
+ * are for programs that read nothing else. CryptoAPI with 128 bits is the strongest of these locks, and no stronger than the
+ * password, as nothing slows down guessing at it. No lock shows whether a sealed stream was changed afterwards.
+ *
+ * What is said with sheet_open of the stack, of registers and of the host's own copy of the password is true of these
+ * functions too. */
+
+/* Seals under XOR. There is no salt and no verifier: the same password and stream give the same sealed stream.
+ *
+ * Checked in this order: 1 to 7; 30; 31, the zero record's body has 6 bytes; 32, the password has 1 to 15 characters, none
+ * above U+00FF. */
+uint32_t sheet_seal_xor(const uint8_t *plain, size_t plain_len, const uint8_t *password, size_t password_len,
+                        uint8_t *scratch, size_t scratch_len, uint8_t *output, size_t output_len, uint64_t facts[8]);
+
+/* Seals under Office 97 RC4, version 1.1, whose keys have 40 bits.
+ *
+ * Checked in this order: 1 to 7; 30; 31, the zero record's body has 54 bytes. */
+uint32_t sheet_seal_office97(const uint8_t *plain, size_t plain_len, const uint8_t *password, size_t password_len,
+                             const uint8_t salt[16], const uint8_t verifier[16], uint8_t *scratch, size_t scratch_len,
+                             uint8_t *output, size_t output_len, uint64_t facts[8]);
+
+/* Seals under RC4 CryptoAPI, version major.2, with a key size in bits. The lock's header fills the record's body, and names
+ * no provider; the document summary, outside of the stream, is said not to be enciphered.
+ *
+ * Checked in this order: 1 to 7; 13, major is 2, 3 or 4 (its details are major and 2); 23, key_size is 40 to 128 in steps of
+ * 8, and not 0; 30; 31, the zero record's body has 106 to 1,098 bytes. */
+uint32_t sheet_seal_cryptoapi(const uint8_t *plain, size_t plain_len, const uint8_t *password, size_t password_len,
+                              const uint8_t salt[16], const uint8_t verifier[16], uint16_t major, uint32_t key_size,
+                              uint8_t *scratch, size_t scratch_len, uint8_t *output, size_t output_len, uint64_t facts[8]);
 
 #ifdef __cplusplus
 }

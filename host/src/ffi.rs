@@ -36,4 +36,46 @@ extern "C" {
         output_len: usize,
         facts: *mut [u64; 8],
     ) -> u32;
+
+    pub fn sheet_seal_xor(
+        plain: *const u8,
+        plain_len: usize,
+        password: *const u8,
+        password_len: usize,
+        scratch: *mut u8,
+        scratch_len: usize,
+        output: *mut u8,
+        output_len: usize,
+        facts: *mut [u64; 8],
+    ) -> u32;
+
+    pub fn sheet_seal_office97(
+        plain: *const u8,
+        plain_len: usize,
+        password: *const u8,
+        password_len: usize,
+        salt: *const [u8; 16],
+        verifier: *const [u8; 16],
+        scratch: *mut u8,
+        scratch_len: usize,
+        output: *mut u8,
+        output_len: usize,
+        facts: *mut [u64; 8],
+    ) -> u32;
+
+    pub fn sheet_seal_cryptoapi(
+        plain: *const u8,
+        plain_len: usize,
+        password: *const u8,
+        password_len: usize,
+        salt: *const [u8; 16],
+        verifier: *const [u8; 16],
+        major: u16,
+        key_size: u32,
+        scratch: *mut u8,
+        scratch_len: usize,
+        output: *mut u8,
+        output_len: usize,
+        facts: *mut [u64; 8],
+    ) -> u32;
 }

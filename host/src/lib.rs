@@ -1,5 +1,5 @@
 //! Protected Excel 97-2003 workbook streams: looking, the directory of sheets, forecasting what
-//! opening takes, and opening.
+//! opening takes, opening, and sealing.
 //!
 //! A safe wrapper over `libsheet.a`, whose functions are proved to end, to do nothing undefined and
 //! to answer what the standards' definitions say. `include/sheet.h` is its C interface; the command
@@ -11,7 +11,8 @@
 //!
 //! [`look`] tells whether a stream is locked, [`same_lock`] whether two are locked alike,
 //! [`records`] lists its records, [`directory`] tells where its sheets start, [`forecast`] tells
-//! what opening it will take, and [`open`] gives the plain stream:
+//! what opening it will take, [`seal`] puts a plain stream under a password, and [`open`] gives the
+//! plain stream:
 //!
 //! ```
 //! # fn main() -> Result<(), Box<dyn std::error::Error>> {
@@ -48,6 +49,8 @@ mod forecast;
 mod open;
 mod records;
 mod refusal;
+mod scrub;
+mod seal;
 mod secret;
 mod verdict;
 
@@ -56,5 +59,6 @@ pub use forecast::{forecast, Forecast};
 pub use open::{open, Lock, Report, PASSWORD_MAX_LEN, SCRATCH_LEN, STREAM_MAX_LEN};
 pub use records::{records, Fault, Record, Records};
 pub use refusal::{Refusal, REFUSALS};
+pub use seal::{seal, Choice};
 pub use secret::Secret;
 pub use verdict::{look, same_lock, Facts, Verdict};

@@ -1,14 +1,12 @@
 //! Open: the plain stream of a locked workbook.
 
-use std::arch::asm;
 use std::fmt;
-use std::mem::MaybeUninit;
-use std::sync::atomic::{compiler_fence, Ordering};
 
 use crate::ffi;
 use crate::refusal::Refusal;
+use crate::scrub::scrub;
 
-/// The scratch that [`open`] asks for, in bytes. A longer one is fine.
+/// The scratch that [`open`] and [`seal`](crate::seal()) ask for, in bytes. A longer one is fine.
 pub const SCRATCH_LEN: usize = 64;
 
 /// The most bytes of a password.
@@ -16,9 +14,6 @@ pub const PASSWORD_MAX_LEN: usize = 1024;
 
 /// The most bytes of a stream: 1 GiB.
 pub const STREAM_MAX_LEN: usize = 1 << 30;
-
-/// The stack that is overwritten after a call, in bytes. A call was measured to use 3,136.
-const SCRUBBED_LEN: usize = 16 * 1024;
 
 /// The lock of a workbook.
 #[derive(Clone, Copy, Debug, PartialEq, Eq)]
@@ -41,7 +36,7 @@ impl fmt::Display for Lock {
     }
 }
 
-/// What is told of a stream that was opened.
+/// What is told of a stream that was opened, or of one that was sealed and will be opened.
 ///
 /// The records and the last three are what [`forecast`](crate::forecast()) tells beforehand.
 #[derive(Clone, Copy, Debug, PartialEq, Eq)]
@@ -54,13 +49,13 @@ pub struct Report {
     pub key_bits: u32,
     /// Whether the document summary, which stands outside the stream, is enciphered too.
     pub summary_sealed: bool,
-    /// How many bytes of output were written: the stream's length.
+    /// How many bytes of output an opening writes: the stream's length.
     pub output_bytes: usize,
-    /// How many bytes of the records' bodies were deciphered: the lengths of the bodies less their
+    /// How many bytes of the records' bodies are enciphered: the lengths of the bodies less their
     /// clear parts.
     pub enciphered_body_bytes: usize,
-    /// How many block keys were derived: none under XOR; under RC4 one for the check of the password,
-    /// and one for each started 1,024 bytes of the stream.
+    /// How many block keys an opening derives: none under XOR; under RC4 one for the check of the
+    /// password, and one for each started 1,024 bytes of the stream.
     pub block_keys: usize,
 }
 
@@ -112,6 +107,11 @@ pub fn open(
     let mut facts = [0; 8];
     let number = call(stream, password, scratch, output, &mut facts);
     scrub();
+    answer(number, facts)
+}
+
+/// What a number and its facts say, of an opening or a sealing.
+pub fn answer(number: u32, facts: [u64; 8]) -> Result<Report, Refusal> {
     let [first, second, key_bits, sealed, output_bytes, enciphered, keys, _] = facts;
     if number != 0 {
         return Err(Refusal::new(number, [first, second]));
@@ -159,66 +159,5 @@ fn call(
             output.len(),
             facts,
         )
-    }
-}
-
-/// Overwrites what [`call`] can have left behind in registers and on the stack: the caller calls
-/// both at the same depth.
-///
-/// The first [`SCRATCH_LEN`] bytes of the scratch, the only ones that password text goes through,
-/// are proved to end zero. But the digests, keys and RC4 tables that are made from the password, and
-/// under XOR the password itself, stand in the call's own stack frames. The language of the proofs
-/// can't speak of the stack that a call leaves behind, so it is cleared here.
-#[inline(never)]
-fn scrub() {
-    clear_registers();
-    const WORDS: usize = SCRUBBED_LEN / size_of::<u64>();
-    let mut region = MaybeUninit::<[u64; WORDS]>::uninit();
-    let first = region.as_mut_ptr().cast::<u64>();
-    let mut word = 0;
-    while word < WORDS {
-        // SAFETY: `word` is below the number of words of the local that `first` points to. The
-        // write is volatile, so it is made though nobody reads it.
-        unsafe { first.add(word).write_volatile(0) };
-        word += 1;
-    }
-    compiler_fence(Ordering::SeqCst);
-}
-
-/// Zeroes the registers that a function need not give back as they were.
-///
-/// Parts of the keys and tables, and under XOR of the array, are left in the vector registers, by the
-/// C library's memcpy and by the call itself. Whoever saves those registers later, as a signal does, would write them to the stack again.
-fn clear_registers() {
-    // SAFETY: the instructions are those of the features that were detected. They touch registers
-    // alone, all of them said to be overwritten by `clobber_abi`.
-    unsafe {
-        if is_x86_feature_detected!("avx512f") {
-            asm!(
-                "vzeroall",
-                ".irp n, 16, 17, 18, 19, 20, 21, 22, 23, 24, 25, 26, 27, 28, 29, 30, 31",
-                "vpxord zmm\\n, zmm\\n, zmm\\n",
-                ".endr",
-                clobber_abi("C"),
-                options(nomem, nostack)
-            );
-        } else if is_x86_feature_detected!("avx") {
-            asm!("vzeroall", clobber_abi("C"), options(nomem, nostack));
-        } else {
-            asm!(
-                ".irp n, 0, 1, 2, 3, 4, 5, 6, 7, 8, 9, 10, 11, 12, 13, 14, 15",
-                "pxor xmm\\n, xmm\\n",
-                ".endr",
-                clobber_abi("C"),
-                options(nomem, nostack)
-            );
-        }
-        asm!(
-            ".irp register, eax, ecx, edx, esi, edi, r8d, r9d, r10d, r11d",
-            "xor \\register, \\register",
-            ".endr",
-            clobber_abi("C"),
-            options(nomem, nostack)
-        );
     }
 }

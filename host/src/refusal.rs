@@ -4,7 +4,7 @@ use std::error::Error;
 use std::fmt;
 
 /// How many refusals there are: their numbers are 1 to this.
-pub const REFUSALS: u32 = 29;
+pub const REFUSALS: u32 = 32;
 
 /// The id of the WriteProtect record.
 const WRITE_PROTECT: u64 = 0x0086;
@@ -31,7 +31,7 @@ impl Refusal {
         Refusal { number, details }
     }
 
-    /// Its number, 1 to 29.
+    /// Its number, 1 to 32.
     pub fn number(&self) -> u32 {
         self.number
     }
@@ -74,7 +74,7 @@ impl Refusal {
             10 => "the FILEPASS record is cut off",
             11 => "the FILEPASS record names no lock that is known",
             12 => "the lock's version is cut off",
-            13 => "the lock's version is not one that is read",
+            13 => "the lock's version is not one that is read or sealed",
             14 => "the 1.1 lock is cut off",
             15 => "the CryptoAPI lock is cut off",
             16 => "the CryptoAPI lock's header does not have 32 to 1,024 bytes",
@@ -84,7 +84,10 @@ impl Refusal {
             20 => "the CryptoAPI lock does not say CryptoAPI (flag 04)",
             21 => "the CryptoAPI lock's cipher is not RC4",
             22 => "the CryptoAPI lock's hash is not SHA-1",
-            23 => "the CryptoAPI lock's key size is not 0, nor 40 to 128 bits in steps of 8",
+            23 => {
+                "the CryptoAPI lock's key size is not 40 to 128 bits in steps of 8, nor 0 in a book \
+                 that is opened"
+            }
             24 => "the CryptoAPI lock's verifier is cut off",
             25 => "the CryptoAPI lock's salt does not have 16 bytes",
             26 => "the CryptoAPI lock's verifier hash does not have 20 bytes",
@@ -94,6 +97,12 @@ impl Refusal {
                  bytes or the start in it is no BOF record's header"
             }
             29 => "BOF and EOF records do not pair up",
+            30 => {
+                "there is no zero record to put the lock in (id 0000, a body of zeros, and only \
+                 records before it that are never enciphered), or a FILEPASS stands before it"
+            }
+            31 => "the zero record's body does not have a length that fits the lock",
+            32 => "the password is not one that XOR takes, of 1 to 15 characters, none beyond U+00FF",
             _ => "a refusal that this version has no words for",
         }
     }
@@ -127,10 +136,15 @@ impl Refusal {
             }
             13 => {
                 "read are 1.1, 2.2, 3.2 and 4.2: open the book in the program that locked it, and \
-                 save it anew as an Excel 97-2003 workbook"
+                 save it anew as an Excel 97-2003 workbook; to seal, choose 2, 3 or 4 for the major \
+                 number"
             }
             10 | 12 | 14 | 15 | 24 => "the stream is damaged: get another copy of the book",
-            16..=23 | 25 | 26 => {
+            23 => {
+                "the book was locked by a program that does it otherwise, or is damaged: open it \
+                 there and save it anew, or get another copy; to seal, choose 40 to 128, best 128"
+            }
+            16..=22 | 25 | 26 => {
                 "the book was locked by a program that does it otherwise, or is damaged: open it \
                  there and save it anew, or get another copy"
             }
@@ -142,6 +156,16 @@ impl Refusal {
                 "the stream is damaged: open the book in a spreadsheet program and save it anew, \
                  or get another copy"
             }
+            30 => {
+                "a stream that is locked already is opened first; one that was opened is sealed as \
+                 it came out; any other has no room for a lock: ask whoever made the sheet for one \
+                 that has"
+            }
+            31 => {
+                "XOR wants 6 bytes, Office 97 RC4 54, RC4 CryptoAPI 106 to 1,098: choose a lock that \
+                 fits, or ask whoever made the sheet for one with room for the lock that you want"
+            }
+            32 => "choose another password, or another lock",
             _ => "look the number up in the documentation of the library that was linked",
         }
     }
@@ -165,14 +189,28 @@ impl Refusal {
             22 => write!(f, ": AlgIDHash {first:08x}"),
             16 | 23 | 25 | 26 => write!(f, ": it says {first}"),
             28 => write!(f, ": the record at offset {first}"),
+            31 => match lock_that_fits(first) {
+                Some(lock) => write!(f, ": it has {first} bytes, which fit {lock} alone"),
+                None => write!(f, ": it has {first} bytes, which fit no lock"),
+            },
             29 => write!(
                 f,
                 ": at offset {first}, where an EOF record closes no BOF or, if that is the end of \
                  the stream, a BOF is left open"
             ),
-            1..=5 | 7 | 8 | 27 => Ok(()),
+            1..=5 | 7 | 8 | 27 | 30 | 32 => Ok(()),
             _ => write!(f, ": details {first} and {second}"),
         }
+    }
+}
+
+/// The lock that a zero record's body of so many bytes fits, with its name on the command line.
+fn lock_that_fits(len: u64) -> Option<&'static str> {
+    match len {
+        6 => Some("XOR (xor)"),
+        54 => Some("Office 97 RC4 (office97)"),
+        106..=1098 => Some("RC4 CryptoAPI (cryptoapi)"),
+        _ => None,
     }
 }
 

@@ -1,6 +1,6 @@
 //! Every function through the wrapper, on buffers of every length around each limit, with guard
-//! bytes around each buffer. The directory, the forecast, padding and the scratch have their own
-//! tests, in directory.rs, forecast.rs, padding.rs and scratch.rs.
+//! bytes around each buffer. The directory, the forecast, padding, the scratch and sealing have their
+//! own tests, in directory.rs, forecast.rs, padding.rs, scratch.rs and seal.rs.
 
 mod common;
 

@@ -13,6 +13,16 @@ use common::passwords::longest;
 use common::process::{run, Process};
 use common::walk::walk;
 
+/// Every command that reads a stream.
+const COMMANDS: [&str; 6] = [
+    "look",
+    "list",
+    "directory",
+    "forecast",
+    "open -o plain",
+    "seal -o plain --lock cryptoapi",
+];
+
 #[test]
 fn look_tells_the_lock() {
     let bench = Bench::new();
@@ -244,8 +254,8 @@ fn forecast_refuses_by_number() {
         ),
         (
             odd,
-            "refused, 23: the CryptoAPI lock's key size is not 0, nor 40 to 128 bits in steps of \
-             8: it says 44; ",
+            "refused, 23: the CryptoAPI lock's key size is not 40 to 128 bits in steps of 8, nor 0 \
+             in a book that is opened: it says 44; ",
         ),
     ] {
         bench.write("book", &stream);
@@ -492,7 +502,7 @@ fn no_terminal_and_no_password() {
 fn files_that_can_t_be_read() {
     let bench = Bench::new();
     fs::create_dir(bench.folder.join("drawer")).unwrap();
-    for command in ["look", "list", "directory", "forecast", "open -o plain"] {
+    for command in COMMANDS {
         bench
             .run_with(&format!("{command} drawer"), PASSWORD)
             .failed(2, &["sheet: drawer: ", "folder"]);
@@ -518,7 +528,7 @@ fn files_that_can_t_be_read() {
 fn compound_files_are_told_from_streams() {
     let bench = Bench::new();
     bench.write("book.xls", b"\xD0\xCF\x11\xE0\xA1\xB1\x1A\xE1 and more");
-    for command in ["look", "list", "directory", "forecast", "open -o plain"] {
+    for command in COMMANDS {
         let ran = bench.run_with(&format!("{command} book.xls"), PASSWORD);
         ran.failed(
             2,
@@ -670,7 +680,10 @@ fn mistakes_in_the_arguments() {
     let bench = Bench::new();
     let password = "not taken as an argument";
     for (line, words) in [
-        ("", "look, list, directory, forecast, open or refusals"),
+        (
+            "",
+            "look, list, directory, forecast, open, seal or refusals",
+        ),
         ("opne calibres.bin", "'opne'"),
         ("directory calibres.bin 0", "'0'"),
         ("forecast", "name of a file"),
@@ -695,7 +708,7 @@ fn mistakes_in_the_arguments() {
 #[test]
 fn help_and_version() {
     let bench = Bench::new();
-    for line in ["--help", "-h", "help", "open --help", "forecast --help"] {
+    for line in ["--help", "-h", "help", "open --help", "seal --help"] {
         let ran = bench.run(line);
         assert_eq!((ran.status, &ran.err[..]), (Some(0), ""));
         for words in [
@@ -704,6 +717,12 @@ fn help_and_version() {
             "sheet directory FILE",
             "sheet forecast FILE",
             "sheet open FILE -o OUT",
+            "sheet seal FILE -o OUT --lock LOCK",
+            "--lock cryptoapi",
+            "--key-size N",
+            "--major N",
+            "--lock office97",
+            "--lock xor",
             "sheet refusals",
             "--password-file",
             "SHEET_PASSWORD",

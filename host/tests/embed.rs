@@ -1,4 +1,4 @@
-//! The C example, also with a longer scratch, and two smaller programs, compiled as a C host would
+//! The C example, also with a longer scratch, and three smaller programs, compiled as a C host would
 //! compile them, and run.
 
 mod common;
@@ -7,9 +7,10 @@ use std::fs::{self, File};
 use std::path::{Path, PathBuf};
 use std::process::{Command, Output, Stdio};
 
-use common::book::{header, Book, Kind, BOF, FILEPASS};
+use common::book::{header, Book, Kind, BOF, FILEPASS, KINDS, ROW};
 use common::folder::Folder;
 use common::process;
+use common::sealing::sheet_with;
 
 /// A file of this crate.
 fn file(path: &str) -> PathBuf {
@@ -41,8 +42,11 @@ fn words(bytes: &[u8]) -> &str {
     std::str::from_utf8(bytes).unwrap()
 }
 
+/// What the example prints of the sample.
+const SAMPLE: &str = "186 records\nsealed and opened again: the same\n";
+
 #[test]
-fn the_c_example_opens_the_sample() {
+fn the_c_example_opens_the_sample_and_seals_it() {
     let folder = Folder::new();
     let stream = file("examples/calibres.bin");
     let password = file("examples/calibres.password");
@@ -55,7 +59,7 @@ fn the_c_example_opens_the_sample() {
 
         let opened = run(&program, &stream, &password);
         assert_eq!(opened.status.code(), Some(0));
-        assert_eq!(words(&opened.stdout), "186 records\n");
+        assert_eq!(words(&opened.stdout), SAMPLE);
 
         let refused = run(&program, &stream, &wrong);
         assert_eq!(refused.status.code(), Some(1));
@@ -87,7 +91,106 @@ fn a_c_host_that_lends_a_longer_scratch() {
         let password = file("examples/calibres.password");
         let opened = run(&program, &file("examples/calibres.bin"), &password);
         assert_eq!(opened.status.code(), Some(0));
-        assert_eq!(words(&opened.stdout), "186 records\n");
+        assert_eq!(words(&opened.stdout), SAMPLE);
+    }
+}
+
+#[test]
+fn the_c_example_seals_under_the_lock_that_it_opened() {
+    let folder = Folder::new();
+    let program = compile(&folder, &file("examples/embed.c"), "-O2");
+    for kind in KINDS {
+        let book = Book::long(kind);
+        let stream = folder.write("book", &book.locked);
+        let password = folder.write("password", book.password.as_bytes());
+        let ran = run(&program, &stream, &password);
+        assert_eq!(ran.status.code(), Some(0), "{}", words(&ran.stderr));
+        let records = book.headers.len();
+        let expected = format!("{records} records\nsealed and opened again: the same\n");
+        assert_eq!(words(&ran.stdout), expected, "{kind:?}");
+    }
+    // A lock with bytes behind it opens, and leaves a record that is too long for this lock.
+    let lock = [Kind::Xor.filepass("A"), vec![0]].concat();
+    let stream = [header(BOF, 0), header(FILEPASS, 7), lock].concat();
+    let stream = folder.write("book", &stream);
+    let ran = run(&program, &stream, &folder.write("password", b"A\n"));
+    assert_eq!(ran.status.code(), Some(1));
+    let said = "refused, 31: the zero record's length does not fit the lock (7, 0)\n";
+    assert_eq!((words(&ran.stdout), words(&ran.stderr)), ("", said));
+}
+
+/// Seals a plain stream from standard input under each lock, and prints the answers and all eight
+/// facts.
+const SEAL: &str = r#"
+#include <stdio.h>
+#include "sheet.h"
+
+static uint8_t plain[1 << 16], output[1 << 16], scratch[SHEET_SCRATCH_LEN];
+static uint64_t facts[8];
+
+static void tell(uint32_t number)
+{
+    printf("%u:", number);
+    for (int k = 0; k < 8; k++) {
+        printf(" %llu", (unsigned long long)facts[k]);
+        facts[k] = 9;
+    }
+    printf("\n");
+}
+
+int main(void)
+{
+    static const uint8_t salt[16] = {1}, verifier[16] = {2}, password[] = "Unruh";
+    size_t len = fread(plain, 1, sizeof plain, stdin);
+    tell(sheet_seal_xor(plain, len, password, 5, scratch, sizeof scratch, output, sizeof output, facts));
+    tell(sheet_seal_office97(plain, len, password, 5, salt, verifier, scratch, sizeof scratch, output, sizeof output, facts));
+    for (uint16_t major = 1; major < 6; major += 3)
+        for (uint32_t key_size = 44; key_size < 49; key_size += 4)
+            tell(sheet_seal_cryptoapi(plain, len, password, 5, salt, verifier, major, key_size, scratch, sizeof scratch, output,
+                                      sizeof output, facts));
+    return 0;
+}
+"#;
+
+#[test]
+fn a_c_program_seals() {
+    let folder = Folder::new();
+    let source = folder.write("seal.c", SEAL.as_bytes());
+    let refused = [
+        "13: 1 2 0 0 0 0 0 0",
+        "13: 1 2 0 0 0 0 0 0",
+        "23: 44 0 0 0 0 0 0 0",
+    ];
+    for level in ["-O0", "-O2"] {
+        let program = compile(&folder, &source, level);
+        // 18 bytes before the zero record's body, and a row of 1,014 behind it.
+        for (len, told) in [
+            (6, ["0: 4 0 0 0 1038 1010 0 0", "31: 6 0 0", "31: 6 0 0"]),
+            (
+                54,
+                ["31: 54 0 0", "0: 4 1 40 0 1086 1010 3 0", "31: 54 0 0"],
+            ),
+            (
+                106,
+                ["31: 106 0 0", "31: 106 0 0", "0: 4 2 48 0 1138 1010 3 0"],
+            ),
+        ] {
+            let plain = sheet_with(len, &[(ROW, vec![7; 1010])]);
+            let plain = folder.write("plain", &plain);
+            let mut command = Command::new(&program);
+            let ran = process::run(command.stdin(File::open(&plain).unwrap()));
+            assert_eq!((ran.status.code(), words(&ran.stderr)), (Some(0), ""));
+            let lines: Vec<&str> = words(&ran.stdout).lines().collect();
+            assert_eq!(lines[2..5], refused, "{len}");
+            for (line, told) in [lines[0], lines[1], lines[5]].iter().zip(told) {
+                let rest = if told.starts_with("31") {
+                    " 0 0 0 0 0"
+                } else {
+                    ""
+                };
+                assert_eq!(*line, format!("{told}{rest}"), "{len}");
+            }
+        }
     }
 }
 

@@ -94,6 +94,9 @@ fn no_division_is_in_the_archive() {
         "sheet_directory",
         "sheet_forecast",
         "sheet_open",
+        "sheet_seal_xor",
+        "sheet_seal_office97",
+        "sheet_seal_cryptoapi",
     ] {
         let own = all.iter().filter(|(function, _)| function == export);
         assert!(own.count() > 10, "{export}");

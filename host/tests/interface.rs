@@ -17,10 +17,14 @@ enum Kind {
     Read,
     /// A pointer to bytes that are written.
     Written,
+    /// A pointer to 16 bytes that are read.
+    Sixteen,
     /// A number of bytes or an offset.
     Size,
     /// A pointer to eight numbers of 64 bits that are written.
     Facts,
+    /// An unsigned number of 16 bits.
+    U16,
     /// An unsigned number of 32 bits.
     U32,
     Bool,
@@ -85,8 +89,13 @@ fn header_parameter(parameter: &str) -> (String, Kind) {
     let (kind, name) = parameter.rsplit_once(' ').unwrap();
     let (kind, name) = match (kind, name) {
         ("const uint8_t", name) if name.starts_with('*') => (Kind::Read, &name[1..]),
+        ("const uint8_t", name) if name.ends_with("[16]") => {
+            (Kind::Sixteen, &name[..name.len() - 4])
+        }
         ("uint8_t", name) if name.starts_with('*') => (Kind::Written, &name[1..]),
         ("size_t", name) => (Kind::Size, name),
+        ("uint16_t", name) => (Kind::U16, name),
+        ("uint32_t", name) => (Kind::U32, name),
         ("uint64_t", name) if name.ends_with("[8]") => (Kind::Facts, &name[..name.len() - 3]),
         _ => panic!("sheet.h: a parameter {parameter}"),
     };
@@ -132,7 +141,10 @@ fn rattle_parameter(parameter: &str) -> Vec<(String, Kind)> {
     match kind {
         "&[u8]" => slice(Kind::Read),
         "&mut [u8]" => slice(Kind::Written),
+        "&[u8; 16]" => vec![(name.to_string(), Kind::Sixteen)],
         "usize" => vec![(name.to_string(), Kind::Size)],
+        "u16" => vec![(name.to_string(), Kind::U16)],
+        "u32" => vec![(name.to_string(), Kind::U32)],
         // In the Rattle crate `facts` is the name of a function.
         "&mut [u64; 8]" if name == "told" => vec![("facts".to_string(), Kind::Facts)],
         _ => panic!("lib.rt: a parameter {parameter}"),
@@ -146,11 +158,11 @@ fn rust_functions(path: &str) -> Vec<Function> {
     let block = squeezed(block);
     block
         .split(';')
-        // The semicolon of `[u64; 8]` ends no declaration.
+        // The semicolons of `[u64; 8]` and `[u8; 16]` end no declaration.
         .fold(vec![String::new()], |mut parts, part| {
             let last = parts.last_mut().unwrap();
             last.push_str(part);
-            match last.ends_with("[u64") {
+            match last.ends_with("[u64") || last.ends_with("[u8") {
                 true => last.push(';'),
                 false => parts.push(String::new()),
             }
@@ -173,7 +185,10 @@ fn rust_functions(path: &str) -> Vec<Function> {
                         let kind = match kind {
                             "*const u8" => Kind::Read,
                             "*mut u8" => Kind::Written,
+                            "*const [u8; 16]" => Kind::Sixteen,
                             "usize" => Kind::Size,
+                            "u16" => Kind::U16,
+                            "u32" => Kind::U32,
                             "*mut [u64; 8]" => Kind::Facts,
                             other => panic!("{path}: a parameter of {other}"),
                         };
@@ -194,18 +209,24 @@ fn rust_functions(path: &str) -> Vec<Function> {
 fn header_rattle_and_rust_declare_the_same() {
     let rattle = rattle_functions();
     let names: Vec<&str> = rattle.iter().map(|function| &function.name[..]).collect();
-    let six = [
+    let nine = [
         "sheet_look",
         "sheet_same_lock",
         "sheet_record",
         "sheet_directory",
         "sheet_forecast",
         "sheet_open",
+        "sheet_seal_xor",
+        "sheet_seal_office97",
+        "sheet_seal_cryptoapi",
     ];
-    assert_eq!(names, six);
+    assert_eq!(names, nine);
     assert_eq!(rattle[3].parameters.len(), 4);
     assert_eq!(rattle[4].parameters.len(), 3);
     assert_eq!(rattle[5].parameters.len(), 9);
+    assert_eq!(rattle[6].parameters.len(), 9);
+    assert_eq!(rattle[7].parameters.len(), 11);
+    assert_eq!(rattle[8].parameters.len(), 13);
     assert_eq!(header_functions(), rattle);
     assert_eq!(rust_functions("src/ffi.rs"), rattle);
     assert_eq!(rust_functions("tests/common/bare.rs")[..], rattle[2..]);
@@ -271,10 +292,10 @@ fn every_refusal_has_words() {
     let header = header_refusals();
     let numbers: Vec<u32> = header.iter().map(|(number, _)| *number).collect();
     let all: Vec<u32> = (1..=sheet::REFUSALS).collect();
-    assert_eq!(all.len(), 29);
+    assert_eq!(all.len(), 32);
     assert_eq!(numbers, all);
     let table = refusals_table();
-    assert_eq!(table.lines().count(), 29);
+    assert_eq!(table.lines().count(), 32);
     let unknown = Refusal::new(99, [0, 0]);
     for (line, (number, words)) in table.lines().zip(&header) {
         assert!(words.len() > 10, "sheet.h: {number} {words}");
@@ -328,6 +349,22 @@ fn every_detail_is_said() {
         (26, [16, 0], "16"),
         (28, [146, 0], "the record at offset 146"),
         (29, [3431, 0], "at offset 3431, where an EOF record"),
+        (31, [6, 0], "it has 6 bytes, which fit XOR (xor) alone"),
+        (
+            31,
+            [54, 0],
+            "it has 54 bytes, which fit Office 97 RC4 (office97) alone",
+        ),
+        (
+            31,
+            [106, 0],
+            "it has 106 bytes, which fit RC4 CryptoAPI (cryptoapi) alone",
+        ),
+        (31, [1098, 0], "which fit RC4 CryptoAPI (cryptoapi) alone"),
+        (31, [0, 0], "it has 0 bytes, which fit no lock"),
+        (31, [7, 0], "it has 7 bytes, which fit no lock"),
+        (31, [105, 0], "which fit no lock"),
+        (31, [1099, 0], "which fit no lock"),
     ] {
         let refusal = Refusal::new(number, details);
         let said = refusal.to_string();
@@ -337,7 +374,7 @@ fn every_detail_is_said() {
         assert!(detail.contains(words), "{said}");
         assert_eq!(refusal.details(), details);
     }
-    for number in [1, 2, 3, 4, 5, 7, 8, 27] {
+    for number in [1, 2, 3, 4, 5, 7, 8, 27, 30, 32] {
         let refusal = Refusal::new(number, [0, 0]);
         let expected = format!(
             "refused, {number}: {}; {}",
@@ -405,6 +442,47 @@ fn the_words_say_what_to_try() {
             3431,
             &["BOF and EOF", "pair up", "left open", "save it anew"],
         ),
+        (13, 5, &["read or sealed", "to seal, choose 2, 3 or 4"]),
+        (
+            23,
+            0,
+            &[
+                "40 to 128 bits in steps of 8",
+                "nor 0 in a book that is opened",
+                "to seal, choose 40 to 128",
+            ],
+        ),
+        (
+            30,
+            0,
+            &[
+                "zero record",
+                "id 0000",
+                "a body of zeros",
+                "FILEPASS",
+                "locked already is opened first",
+            ],
+        ),
+        (
+            31,
+            70,
+            &[
+                "zero record's body",
+                "XOR wants 6 bytes",
+                "Office 97 RC4 54",
+                "RC4 CryptoAPI 106 to 1,098",
+            ],
+        ),
+        (
+            32,
+            0,
+            &[
+                "XOR",
+                "1 to 15 characters",
+                "none beyond U+00FF",
+                "another lock",
+            ],
+        ),
     ] {
         let said = Refusal::new(number, [detail, 0]).to_string();
         for word in words {
@@ -416,6 +494,6 @@ fn the_words_say_what_to_try() {
     assert!(Refusal::new(9, [0x86, 0]).is_write_protect());
     assert!(!Refusal::new(9, [0x42, 0]).is_write_protect());
     // A number of a later library is still said.
-    let later = Refusal::new(30, [5, 6]).to_string();
-    assert!(later.starts_with("refused, 30: ") && later.contains("details 5 and 6"));
+    let later = Refusal::new(33, [5, 6]).to_string();
+    assert!(later.starts_with("refused, 33: ") && later.contains("details 5 and 6"));
 }

@@ -36,7 +36,14 @@ fn a_file_above_a_gibibyte_is_not_read() {
     // A hole, which takes no room on the disk.
     let file = File::create(bench.folder.join("huge")).unwrap();
     file.set_len(sheet::STREAM_MAX_LEN as u64 + 1).unwrap();
-    for command in ["look", "list", "directory", "forecast", "open -o plain"] {
+    for command in [
+        "look",
+        "list",
+        "directory",
+        "forecast",
+        "open -o plain",
+        "seal -o sealed --lock cryptoapi",
+    ] {
         let ran = bench.run_with(&format!("{command} huge"), PASSWORD);
         ran.failed(2, &["sheet: huge: ", "1 GiB"]);
     }
@@ -50,15 +57,70 @@ fn a_device_is_not_written_to() {
     assert!(device.file_type().is_char_device());
     let ran = bench.run_with("open calibres.bin -o /dev/full", PASSWORD);
     ran.failed(2, &["sheet: /dev/full: ", "device"]);
-    bench.has_only(&[]);
+    bench.write("plain", &bench.plain());
+    let ran = bench.run_with("seal plain -o /dev/full --lock cryptoapi", PASSWORD);
+    ran.failed(2, &["sheet: /dev/full: ", "device"]);
+    bench.has_only(&["plain"]);
+}
+
+/// What a user has in place of the random source, by a shell that runs as the root of a name space of
+/// its own, and what the command says of it.
+const SOURCES: [(&str, &str); 4] = [
+    (
+        "mount --bind /dev/zero /dev/urandom",
+        "it gives zeros and nothing else",
+    ),
+    ("mount --bind /dev/null /dev/urandom", "it ended too early"),
+    (
+        "mount --bind calibres.bin /dev/urandom",
+        "this is not a device",
+    ),
+    ("mount -t tmpfs none /dev", "No such file"),
+];
+
+#[test]
+fn nothing_is_sealed_without_a_random_source() {
+    let bench = Bench::new();
+    bench.write("plain", &bench.plain());
+    let run = |first: &str, line: &str| {
+        let script = format!("{first} && exec \"$@\"");
+        let mut command = Command::new("unshare");
+        command
+            .args(["--user", "--map-root-user", "--mount", "sh", "-c", &script])
+            .args(["sh", SHEET])
+            .args(line.split_whitespace())
+            .current_dir(bench.folder.path())
+            .env("SHEET_PASSWORD", PASSWORD)
+            .stdin(Stdio::null());
+        Ran::of(&mut command)
+    };
+    let seal = "seal plain -o sealed --lock cryptoapi";
+    for (first, words) in SOURCES {
+        let tried = run(first, "--version");
+        if tried.status != Some(0) {
+            // Not every machine lets users have name spaces.
+            println!("not tried: {}", tried.err);
+            continue;
+        }
+        let ran = run(first, seal);
+        let whole = format!("the system's random source gave no salt ({words}");
+        ran.failed(2, &["sheet: /dev/urandom: ", &whole, "nothing is sealed"]);
+        // What takes no salt does without.
+        assert_eq!(run(first, "open calibres.bin -o other").status, Some(0));
+        fs::remove_file(bench.folder.join("other")).unwrap();
+    }
+    bench.has_only(&["plain"]);
+    assert_eq!(bench.run_with(seal, PASSWORD).status, Some(0));
 }
 
 #[test]
 fn a_full_disk_is_told() {
     let bench = Bench::new();
     let full = || OpenOptions::new().write(true).open("/dev/full").unwrap();
+    bench.write("sheet", &bench.plain());
     for line in [
         "open calibres.bin -o -",
+        "seal sheet -o - --lock cryptoapi",
         "look calibres.bin",
         "list calibres.bin",
         "directory calibres.bin",
@@ -70,20 +132,35 @@ fn a_full_disk_is_told() {
         Ran::to(full(), &mut bench.command_with(line, PASSWORD))
             .failed(2, &["sheet: standard output: the disk is full"]);
     }
-    bench.has_only(&[]);
-    // The plain stream is written, and only the report is lost.
-    let mut command = bench.command_with("open calibres.bin -o plain", PASSWORD);
-    Ran::to(full(), &mut command).failed(2, &["the disk is full", "plain is written and whole"]);
+    bench.has_only(&["sheet"]);
+    // The stream is written, and only the report is lost.
+    for (line, out) in [
+        ("open calibres.bin -o plain", "plain"),
+        ("seal sheet -o sealed --lock cryptoapi", "sealed"),
+    ] {
+        let mut command = bench.command_with(line, PASSWORD);
+        let whole = format!("{out} is written and whole");
+        Ran::to(full(), &mut command).failed(2, &["the disk is full", &whole]);
+    }
     assert!(bench.read("plain") == bench.plain());
-    bench.has_only(&["plain"]);
+    let ran = bench.run_with("open sealed -o plain", PASSWORD);
+    assert_eq!(ran.status, Some(0));
+    assert!(bench.read("plain") == bench.plain());
+    bench.has_only(&["plain", "sealed", "sheet"]);
 }
 
 #[test]
 fn an_output_that_grows_too_large_is_not_left_half_written() {
     let bench = Bench::new();
     bench.write("old", b"old");
-    for out in ["new", "old"] {
-        let mut command = bench.command_with(&format!("open calibres.bin -o {out}"), PASSWORD);
+    bench.write("sheet", &bench.plain());
+    for (line, out) in [
+        ("open calibres.bin -o new", "new"),
+        ("open calibres.bin -o old", "old"),
+        ("seal sheet -o new --lock cryptoapi", "new"),
+        ("seal sheet -o old --lock cryptoapi", "old"),
+    ] {
+        let mut command = bench.command_with(line, PASSWORD);
         // SAFETY: setrlimit may be called between fork and exec.
         unsafe {
             command.pre_exec(|| {
@@ -97,7 +174,7 @@ fn an_output_that_grows_too_large_is_not_left_half_written() {
         );
     }
     assert_eq!(bench.read("old"), b"old");
-    bench.has_only(&["old"]);
+    bench.has_only(&["old", "sheet"]);
 }
 
 #[test]

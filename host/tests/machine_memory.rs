@@ -1,7 +1,7 @@
 //! The command's memory while it writes: nothing of the password is left in it.
 //!
-//! The plain stream goes to a pipe that nobody empties, so the command stands still after it has
-//! opened the stream, and its memory can be read.
+//! The stream goes to a pipe that nobody empties, so the command stands still after it has opened or
+//! sealed it, and its memory can be read.
 
 mod common;
 
@@ -34,6 +34,15 @@ fn book(kind: Kind) -> Book {
     Book::new(kind, kind.password(), &records)
 }
 
+/// Every run of what a sealing of the book's plain stream knows: the salt, and so the keys, are others.
+fn text_runs(book: &Book) -> HashSet<[u8; RUN]> {
+    let mut secrets = vec![book.password.as_bytes().to_vec(), utf16(book.password)];
+    if book.kind == Kind::Xor {
+        secrets.push(xor::array(book.password.as_bytes()).to_vec());
+    }
+    runs_of(&secrets)
+}
+
 /// Every run of the secrets.
 fn runs(book: &Book) -> HashSet<[u8; RUN]> {
     let mut secrets = vec![book.password.as_bytes().to_vec(), utf16(book.password)];
@@ -47,6 +56,10 @@ fn runs(book: &Book) -> HashSet<[u8; RUN]> {
             }
         }
     }
+    runs_of(&secrets)
+}
+
+fn runs_of(secrets: &[Vec<u8>]) -> HashSet<[u8; RUN]> {
     secrets
         .iter()
         .flat_map(|secret| secret.windows(RUN))
@@ -130,6 +143,54 @@ fn a_password_from_the_terminal_is_wiped() {
         terminal.wait_for("Password for book: ");
         terminal.write(format!("{}\n", book.password).as_bytes());
         assert_eq!(look_while_it_writes(process, &book), [""; 0], "{kind:?}");
+    }
+}
+
+#[test]
+fn a_password_that_sealed_is_wiped() {
+    for (kind, lock) in
+        KINDS
+            .into_iter()
+            .zip(["xor", "office97", "cryptoapi", "cryptoapi --key-size 40"])
+    {
+        let (folder, book) = (Folder::new(), book(kind));
+        folder.write("sheet", &book.plain);
+        folder.write("password", book.password.as_bytes());
+        let seal = || {
+            let mut command = Command::new(env!("CARGO_BIN_EXE_sheet"));
+            command
+                .args(["seal", "sheet", "-o", "-", "--lock"])
+                .args(lock.split_whitespace())
+                .current_dir(folder.path())
+                .env_remove("SHEET_PASSWORD")
+                .stdin(Stdio::null())
+                .stdout(Stdio::piped())
+                .stderr(Stdio::null());
+            command
+        };
+        let check = |mut process: Process| {
+            let first = process.first_byte();
+            let parts = found(&process, &text_runs(&book));
+            let output = process.end();
+            assert!(output.status.success());
+            let sealed = [&[first], &output.stdout[..]].concat();
+            let mut plain = vec![0; sealed.len()];
+            let mut scratch = [0; sheet::SCRATCH_LEN];
+            sheet::open(&sealed, book.password.as_bytes(), &mut scratch, &mut plain).unwrap();
+            assert!(plain == book.plain);
+            assert_eq!(parts, [""; 0], "{kind:?}");
+        };
+        check(Process::start(seal().args(["--password-file", "password"])));
+        // At the terminal it is typed twice.
+        let mut terminal = Terminal::open();
+        let mut command = seal();
+        terminal.attach(&mut command);
+        let process = Process::start(&mut command);
+        for prompt in ["New password for sheet: ", "The same password again: "] {
+            terminal.wait_for(prompt);
+            terminal.write(format!("{}\n", book.password).as_bytes());
+        }
+        check(process);
     }
 }
 

@@ -1,20 +1,21 @@
-//! What a call to open leaves on the stack and in vector registers: nothing of the password, nor of
-//! what is made from it.
+//! What a call to open or to seal leaves on the stack and in vector registers: nothing of the
+//! password, nor of what is made from it.
 //!
-//! A trial paints the stack below it, opens a book, and reads the same stack again, with machine
-//! instructions: what stands below the stack pointer is nobody's, and only the machine can speak of
-//! it.
+//! A trial paints the stack below it, opens a book or seals its plain stream, and reads the same stack
+//! again, with machine instructions: what stands below the stack pointer is nobody's, and only the
+//! machine can speak of it.
 
 mod common;
 
 use std::arch::asm;
 use std::thread;
 
-use common::bare::sheet_open;
-use common::book::{Book, Kind, BLOCK, KINDS};
+use common::bare::{seal_into, sheet_open};
+use common::book::{Book, Kind, BLOCK, KINDS, SALT, VERIFIER};
 use common::passwords::longest;
 use common::rc4::Rc4;
 use common::{digest, utf16, xor};
+use sheet::Choice;
 
 /// How much of the stack is painted and read, in bytes, and with what.
 const REGION: usize = 128 * 1024;
@@ -128,29 +129,81 @@ fn wrapped_open(stream: &[u8], password: &[u8], scratch: &mut [u8], output: &mut
     }
 }
 
-type Open = fn(&[u8], &[u8], &mut [u8], &mut [u8]) -> u32;
+/// The lock of a book, to seal its plain stream under: with its salt, so that the same keys and tables
+/// are made.
+fn choice(kind: Kind) -> Choice {
+    let (salt, verifier) = (SALT, VERIFIER);
+    match kind {
+        Kind::Xor => Choice::Xor,
+        Kind::Office97 => Choice::Office97 { salt, verifier },
+        Kind::CryptoApi(key_size, _) => Choice::CryptoApi {
+            salt,
+            verifier,
+            major: 4,
+            key_size,
+        },
+    }
+}
 
-/// Opens, and gives the answer and what stands afterwards on the stack, whose last byte is the one
-/// nearest to the caller's frame, and in the vector registers.
+/// A sealing without the wrapper.
 #[inline(never)]
-fn trial(open: Open, stream: &[u8], password: &[u8]) -> (u32, Vec<u8>, Vec<u8>) {
+fn bare_seal<const LOCK: usize>(
+    plain: &[u8],
+    password: &[u8],
+    scratch: &mut [u8],
+    output: &mut [u8],
+) -> u32 {
+    let mut facts = [0; 8];
+    let choice = choice(KINDS[LOCK]);
+    seal_into(plain, password, &choice, scratch, output, &mut facts)
+}
+
+fn wrapped_seal<const LOCK: usize>(
+    plain: &[u8],
+    password: &[u8],
+    scratch: &mut [u8],
+    output: &mut [u8],
+) -> u32 {
+    match sheet::seal(plain, password, &choice(KINDS[LOCK]), scratch, output) {
+        Ok(_) => 0,
+        Err(refusal) => refusal.number(),
+    }
+}
+
+/// A call that takes a stream, a password, a scratch and an output.
+type Call = fn(&[u8], &[u8], &mut [u8], &mut [u8]) -> u32;
+
+/// The calls that seal under a lock, without the wrapper and with it.
+fn seals(kind: Kind) -> [Call; 2] {
+    match KINDS.iter().position(|other| *other == kind) {
+        Some(0) => [bare_seal::<0>, wrapped_seal::<0>],
+        Some(1) => [bare_seal::<1>, wrapped_seal::<1>],
+        Some(2) => [bare_seal::<2>, wrapped_seal::<2>],
+        _ => [bare_seal::<3>, wrapped_seal::<3>],
+    }
+}
+
+/// Makes a call, and gives the answer and what stands afterwards on the stack, whose last byte is the
+/// one nearest to the caller's frame, and in the vector registers.
+#[inline(never)]
+fn trial(call: Call, stream: &[u8], password: &[u8]) -> (u32, Vec<u8>, Vec<u8>) {
     let mut scratch = vec![0; sheet::SCRATCH_LEN];
     let mut output = vec![0; stream.len()];
     let mut region = vec![0; REGION];
     let mut vectors = vec![0; VECTORS];
     paint!();
-    let number = open(stream, password, &mut scratch, &mut output);
+    let number = call(stream, password, &mut scratch, &mut output);
     copy_vectors!(vectors);
     copy!(region);
     (number, region, vectors)
 }
 
 /// A trial on a thread of its own, whose stack has room for it.
-fn left_behind(open: Open, stream: &[u8], password: &str) -> (u32, Vec<u8>, Vec<u8>) {
+fn left_behind(call: Call, stream: &[u8], password: &str) -> (u32, Vec<u8>, Vec<u8>) {
     thread::scope(|scope| {
         thread::Builder::new()
             .stack_size(4 * REGION)
-            .spawn_scoped(scope, || trial(open, stream, password.as_bytes()))
+            .spawn_scoped(scope, || trial(call, stream, password.as_bytes()))
             .unwrap()
             .join()
             .unwrap()
@@ -253,11 +306,11 @@ fn name(book: &Book) -> String {
     format!("{kind:?}, {len} bytes, password of {password}")
 }
 
-/// Sees that an opening through the wrapper is answered by a number, and that none of the secrets is
-/// left behind.
+/// Sees that a call through the wrapper is answered by a number, and that none of the secrets is left
+/// behind.
 #[track_caller]
-fn check_nothing_left(stream: &[u8], password: &str, secrets: &Secrets, expected: u32) {
-    let (number, region, vectors) = left_behind(wrapped_open, stream, password);
+fn check_nothing_left(call: Call, stream: &[u8], password: &str, secrets: &Secrets, expected: u32) {
+    let (number, region, vectors) = left_behind(call, stream, password);
     assert_eq!(number, expected);
     assert_eq!(found(secrets, &region), [""; 0]);
     assert_eq!(found(secrets, &vectors), [""; 0]);
@@ -279,7 +332,27 @@ fn the_search_finds_a_key_of_40_bits_and_no_small_number() {
 #[test]
 fn nothing_of_the_password_is_left_behind() {
     for book in books() {
-        check_nothing_left(&book.locked, book.password, &secrets(&book), 0);
+        let secrets = secrets(&book);
+        check_nothing_left(wrapped_open, &book.locked, book.password, &secrets, 0);
+        let [_, seal] = seals(book.kind);
+        check_nothing_left(seal, &book.plain, book.password, &secrets, 0);
+    }
+}
+
+#[test]
+fn nothing_of_a_password_that_seals_nothing_is_left_behind_either() {
+    for book in books() {
+        let [_, seal] = seals(book.kind);
+        // Locked already, and cut in its last record.
+        let cut = &book.plain[..book.plain.len() - 1];
+        check_nothing_left(seal, &book.locked, book.password, &secrets(&book), 30);
+        check_nothing_left(seal, cut, book.password, &secrets(&book), 6);
+    }
+    // Under XOR none of 1,024 bytes is taken.
+    let book = Book::long(Kind::Xor);
+    let [_, seal] = seals(Kind::Xor);
+    for password in longest() {
+        check_nothing_left(seal, &book.plain, password, &text_of(password), 32);
     }
 }
 
@@ -290,28 +363,34 @@ fn nothing_of_a_password_that_does_not_pass_is_left_behind_either() {
         let mut stream = book.locked.clone();
         let (_, lock_end) = book.filepass();
         stream[lock_end - 1] ^= 1;
-        check_nothing_left(&stream, book.password, &secrets(&book), 27);
+        check_nothing_left(wrapped_open, &stream, book.password, &secrets(&book), 27);
     }
     // Under XOR none of 1,024 bytes passes.
     let book = Book::long(Kind::Xor);
     for password in longest() {
-        check_nothing_left(&book.locked, password, &text_of(password), 27);
+        check_nothing_left(wrapped_open, &book.locked, password, &text_of(password), 27);
     }
 }
 
 #[test]
 fn the_same_search_finds_secrets_where_nothing_is_scrubbed() {
     for book in books() {
-        let (number, region, vectors) = left_behind(bare_open, &book.locked, book.password);
-        assert_eq!(number, 0);
-        let names = found(&secrets(&book), &region);
-        println!("{}: {names:?}", name(&book));
-        // What is left in which registers depends on the machine, so nothing is expected of them.
-        println!("in registers: {:?}", found(&secrets(&book), &vectors));
-        let sort = |word: &str| names.iter().any(|name| name.starts_with(word));
-        match book.kind {
-            Kind::Xor => assert!(sort("password") && sort("XOR array")),
-            _ => assert!(sort("H0") && sort("key") && sort("table")),
+        let [seal, _] = seals(book.kind);
+        for (what, call, stream) in [
+            ("open", bare_open as Call, &book.locked),
+            ("seal", seal, &book.plain),
+        ] {
+            let (number, region, vectors) = left_behind(call, stream, book.password);
+            assert_eq!(number, 0);
+            let names = found(&secrets(&book), &region);
+            println!("{what}, {}: {names:?}", name(&book));
+            // What is left in which registers depends on the machine, so nothing is expected of them.
+            println!("in registers: {:?}", found(&secrets(&book), &vectors));
+            let sort = |word: &str| names.iter().any(|name| name.starts_with(word));
+            match book.kind {
+                Kind::Xor => assert!(sort("password") && sort("XOR array")),
+                _ => assert!(sort("H0") && sort("key") && sort("table")),
+            }
         }
     }
 }
@@ -319,11 +398,17 @@ fn the_same_search_finds_secrets_where_nothing_is_scrubbed() {
 #[test]
 fn a_call_uses_far_less_of_the_stack_than_is_scrubbed() {
     for book in books() {
-        let (first, bare, _) = left_behind(bare_open, &book.locked, book.password);
-        let (second, wrapped, _) = left_behind(wrapped_open, &book.locked, book.password);
-        assert_eq!((first, second), (0, 0));
-        println!("{}: {} of {}", name(&book), depth(&bare), depth(&wrapped));
-        assert!(depth(&bare) < 8 * 1024);
-        assert!(depth(&wrapped) >= 16 * 1024);
+        for (what, [bare, wrapped], stream) in [
+            ("open", [bare_open as Call, wrapped_open], &book.locked),
+            ("seal", seals(book.kind), &book.plain),
+        ] {
+            let (first, bare, _) = left_behind(bare, stream, book.password);
+            let (second, wrapped, _) = left_behind(wrapped, stream, book.password);
+            assert_eq!((first, second), (0, 0));
+            let (used, all) = (depth(&bare), depth(&wrapped));
+            println!("{what}, {}: {used} of {all}", name(&book));
+            assert!(used < 8 * 1024);
+            assert!(all >= 16 * 1024);
+        }
     }
 }

@@ -2,6 +2,7 @@
 
 use std::ffi::{OsStr, OsString};
 use std::os::unix::ffi::OsStrExt;
+use std::str::FromStr;
 
 use super::failure::Failure;
 
@@ -28,7 +29,25 @@ pub enum Order {
         out: OsString,
         password: PasswordFrom,
     },
+    Seal {
+        file: OsString,
+        out: OsString,
+        password: PasswordFrom,
+        lock: SealUnder,
+    },
 }
+
+/// The lock that `--lock` names, with what CryptoAPI takes.
+#[derive(Clone, Copy, Debug, PartialEq)]
+pub enum SealUnder {
+    Xor,
+    Office97,
+    CryptoApi { major: u16, key_size: u32 },
+}
+
+/// CryptoAPI's version and its key size where nothing is said of them: the latest and the strongest.
+const MAJOR: u16 = 4;
+const KEY_SIZE: u32 = 128;
 
 /// Where the password comes from, as far as the arguments say.
 #[derive(Debug, PartialEq)]
@@ -44,12 +63,20 @@ const NO_PASSWORD: &str = "a password is not taken as an argument, which other u
     process list and the shell keeps in its history: use --password-file, SHEET_PASSWORD or the \
     prompt";
 
+/// What the options of `seal` need.
+const LOCKS: &str = "the name of a lock, cryptoapi, office97 or xor";
+const BITS: &str = "a number of bits, 40 to 128 in steps of 8";
+const VERSION: &str = "a number, 2, 3 or 4";
+
 /// What stands on a command line behind the command: names of files, and options with their values.
 #[derive(Default)]
 struct Given {
     files: Vec<OsString>,
     out: Option<OsString>,
     password_file: Option<OsString>,
+    lock: Option<OsString>,
+    key_size: Option<OsString>,
+    major: Option<OsString>,
     help: bool,
 }
 
@@ -58,20 +85,21 @@ pub fn parse(arguments: impl Iterator<Item = OsString>) -> Result<Order, Failure
     let mut rest = arguments;
     let Some(command) = rest.next() else {
         return Err(usage(
-            "say what to do: sheet look, list, directory, forecast, open or refusals",
+            "say what to do: sheet look, list, directory, forecast, open, seal or refusals",
         ));
     };
     let given = match command.to_str() {
         Some("--help" | "-h" | "help") => return Ok(Order::Help),
         Some("--version" | "-V") => return Ok(Order::Version),
-        Some("look" | "list" | "directory" | "forecast" | "open" | "refusals") => {
+        Some("look" | "list" | "directory" | "forecast" | "open" | "seal" | "refusals") => {
             Given::read(rest)?
         }
         _ => {
             return Err(usage(&format!(
-                "there is no command '{}': look, list, directory, forecast, open and refusals are",
-                command.to_string_lossy()
-            )))
+            "there is no command '{}': look, list, directory, forecast, open, seal and refusals \
+                 are",
+            command.to_string_lossy()
+        )))
         }
     };
     if given.help {
@@ -91,6 +119,7 @@ pub fn parse(arguments: impl Iterator<Item = OsString>) -> Result<Order, Failure
             file: given.only_file("forecast")?,
         }),
         Some("open") => given.open(),
+        Some("seal") => given.seal(),
         _ => match given.files.first() {
             Some(file) => Err(usage(&format!(
                 "'{}' is too much: 'sheet refusals' stands alone",
@@ -127,6 +156,18 @@ impl Given {
                         "the name of a file",
                     )?;
                 }
+                b"--lock" => {
+                    let value = value.or_else(|| rest.next());
+                    once(&mut given.lock, value, "--lock", LOCKS)?;
+                }
+                b"--key-size" => {
+                    let value = value.or_else(|| rest.next());
+                    once(&mut given.key_size, value, "--key-size", BITS)?;
+                }
+                b"--major" => {
+                    let value = value.or_else(|| rest.next());
+                    once(&mut given.major, value, "--major", VERSION)?;
+                }
                 b"--password" => return Err(usage(NO_PASSWORD)),
                 [b'-', b'p', ..] => return Err(usage(NO_PASSWORD)),
                 _ => {
@@ -141,25 +182,74 @@ impl Given {
     }
 
     fn open(self) -> Result<Order, Failure> {
-        let file = self.file("open")?;
+        self.no_lock("open")?;
+        let (file, out, password) = self.with_password("open")?;
+        Ok(Order::Open {
+            file,
+            out,
+            password,
+        })
+    }
+
+    fn seal(self) -> Result<Order, Failure> {
+        let lock = self.lock()?;
+        let (file, out, password) = self.with_password("seal")?;
+        Ok(Order::Seal {
+            file,
+            out,
+            password,
+            lock,
+        })
+    }
+
+    /// The file, the output and the password of a command that has all three.
+    fn with_password(self, command: &str) -> Result<(OsString, OsString, PasswordFrom), Failure> {
+        let file = self.file(command)?;
         let Some(out) = self.out else {
-            return Err(usage(
-                "'sheet open' needs -o and the name of the file to write (- is standard output)",
-            ));
+            return Err(usage(&format!(
+                "'sheet {command}' needs -o and the name of the file to write (- is standard \
+                 output)"
+            )));
         };
         if file == "-" && self.password_file.as_deref() == Some(OsStr::new("-")) {
             return Err(usage(
                 "the stream and the password can't both come from standard input",
             ));
         }
-        Ok(Order::Open {
-            file,
-            out,
-            password: match self.password_file {
-                Some(file) => PasswordFrom::File(file),
-                None => PasswordFrom::Elsewhere,
+        let password = match self.password_file {
+            Some(file) => PasswordFrom::File(file),
+            None => PasswordFrom::Elsewhere,
+        };
+        Ok((file, out, password))
+    }
+
+    /// The lock to seal under. Which numbers it takes, the library says.
+    fn lock(&self) -> Result<SealUnder, Failure> {
+        let Some(lock) = &self.lock else {
+            return Err(usage(&format!("'sheet seal' needs --lock and {LOCKS}")));
+        };
+        let under = match lock.to_str() {
+            Some("xor") => SealUnder::Xor,
+            Some("office97") => SealUnder::Office97,
+            Some("cryptoapi") => SealUnder::CryptoApi {
+                major: number(&self.major, "--major", VERSION)?.unwrap_or(MAJOR),
+                key_size: number(&self.key_size, "--key-size", BITS)?.unwrap_or(KEY_SIZE),
             },
-        })
+            _ => {
+                return Err(usage(&format!(
+                    "there is no lock '{}': --lock needs {LOCKS}",
+                    lock.to_string_lossy()
+                )))
+            }
+        };
+        let numbers = self.key_size.is_some() || self.major.is_some();
+        if numbers && !matches!(under, SealUnder::CryptoApi { .. }) {
+            return Err(usage(&format!(
+                "--key-size and --major are for --lock cryptoapi: the lock {} has no choice of them",
+                lock.to_string_lossy()
+            )));
+        }
+        Ok(under)
     }
 
     /// The one file of a command that takes no options.
@@ -176,8 +266,8 @@ impl Given {
             [] => Err(usage(&format!(
                 "'sheet {command}' needs the name of a file, or - for standard input"
             ))),
-            [_, _, ..] if command == "open" => Err(usage(&format!(
-                "'sheet open' takes one file; {NO_PASSWORD}"
+            [_, _, ..] if matches!(command, "open" | "seal") => Err(usage(&format!(
+                "'sheet {command}' takes one file; {NO_PASSWORD}"
             ))),
             [_, second, ..] => Err(usage(&format!(
                 "'{}' is too much: 'sheet {command}' takes one file",
@@ -190,6 +280,15 @@ impl Given {
         if self.out.is_some() || self.password_file.is_some() {
             return Err(usage(&format!(
                 "'sheet {command}' takes neither -o nor --password-file"
+            )));
+        }
+        self.no_lock(command)
+    }
+
+    fn no_lock(&self, command: &str) -> Result<(), Failure> {
+        if self.lock.is_some() || self.key_size.is_some() || self.major.is_some() {
+            return Err(usage(&format!(
+                "--lock, --key-size and --major are for 'sheet seal', and not for 'sheet {command}'"
             )));
         }
         Ok(())
@@ -205,6 +304,24 @@ fn split(word: &OsStr) -> (&OsStr, Option<OsString>) {
             Some(OsStr::from_bytes(&bytes[at + 1..]).to_owned()),
         ),
         _ => (word, None),
+    }
+}
+
+/// The number that is the value of an option, if that stands there.
+fn number<N: FromStr>(
+    option: &Option<OsString>,
+    name: &str,
+    what: &str,
+) -> Result<Option<N>, Failure> {
+    let Some(value) = option else {
+        return Ok(None);
+    };
+    match value.to_str().map(str::parse) {
+        Some(Ok(number)) => Ok(Some(number)),
+        _ => Err(usage(&format!(
+            "{name} needs {what}, and not '{}'",
+            value.to_string_lossy()
+        ))),
     }
 }
 
@@ -266,6 +383,7 @@ mod tests {
             "look -h",
             "directory --help",
             "forecast --help",
+            "seal --help",
             "refusals --help",
         ] {
             assert_eq!(parsed(line), Ok(Order::Help), "{line}");
@@ -289,13 +407,46 @@ mod tests {
     }
 
     #[test]
+    fn every_lock_to_seal_under_is_read() {
+        let crypto_api = |major, key_size| SealUnder::CryptoApi { major, key_size };
+        for (line, lock) in [
+            ("--lock xor", SealUnder::Xor),
+            ("--lock=office97", SealUnder::Office97),
+            ("--lock cryptoapi", crypto_api(4, 128)),
+            ("--lock=cryptoapi --key-size 40", crypto_api(4, 40)),
+            ("--lock cryptoapi --major=2", crypto_api(2, 128)),
+            (
+                "--major 3 --key-size=56 --lock cryptoapi",
+                crypto_api(3, 56),
+            ),
+            // The library says what it does not take.
+            ("--lock cryptoapi --key-size 0", crypto_api(4, 0)),
+            ("--lock cryptoapi --major 65535", crypto_api(65535, 128)),
+        ] {
+            let seal = |password| Order::Seal {
+                file: "a".into(),
+                out: "b".into(),
+                password,
+                lock,
+            };
+            let order = parsed(&format!("seal a -o b {line}"));
+            assert_eq!(order, Ok(seal(PasswordFrom::Elsewhere)), "{line}");
+            let order = parsed(&format!("seal {line} --password-file p --output b -- a"));
+            assert_eq!(order, Ok(seal(PasswordFrom::File("p".into()))), "{line}");
+        }
+    }
+
+    #[test]
     fn what_is_wrong_is_named() {
         for (line, word) in [
-            ("", "look, list, directory, forecast, open or refusals"),
+            (
+                "",
+                "look, list, directory, forecast, open, seal or refusals",
+            ),
             ("opne a", "'opne'"),
             (
                 "opne a",
-                "look, list, directory, forecast, open and refusals",
+                "look, list, directory, forecast, open, seal and refusals",
             ),
             ("look", "name of a file"),
             ("look a b", "'b'"),
@@ -320,6 +471,52 @@ mod tests {
             ("open a -o b -px", "not taken as an argument"),
             ("open a x -o b", "not taken as an argument"),
             ("open - -o b --password-file -", "standard input"),
+            ("open a -o b --lock xor", "for 'sheet seal', and not"),
+            ("open a -o b --key-size 40", "for 'sheet seal', and not"),
+            ("look a --major 4", "for 'sheet seal', and not"),
+            ("refusals --lock xor", "for 'sheet seal', and not"),
+            ("seal a -o b", "'sheet seal' needs --lock"),
+            ("seal a -o b --lock", "--lock needs"),
+            ("seal a -o b --lock=", "--lock needs"),
+            ("seal a -o b --lock rc4", "there is no lock 'rc4'"),
+            ("seal a -o b --lock XOR", "there is no lock 'XOR'"),
+            (
+                "seal a -o b --lock xor --lock xor",
+                "--lock stands there twice",
+            ),
+            (
+                "seal a -o b --lock xor --key-size 40",
+                "for --lock cryptoapi",
+            ),
+            ("seal a -o b --lock xor --major 4", "for --lock cryptoapi"),
+            (
+                "seal a -o b --lock office97 --key-size 40",
+                "for --lock cryptoapi",
+            ),
+            (
+                "seal a -o b --lock office97 --major 4",
+                "for --lock cryptoapi",
+            ),
+            (
+                "seal a -o b --lock cryptoapi --key-size",
+                "--key-size needs",
+            ),
+            ("seal a -o b --lock cryptoapi --key-size x", "and not 'x'"),
+            (
+                "seal a -o b --lock cryptoapi --key-size -40",
+                "and not '-40'",
+            ),
+            (
+                "seal a -o b --lock cryptoapi --key-size 4294967296",
+                "40 to 128",
+            ),
+            ("seal a -o b --lock cryptoapi --major 4.2", "and not '4.2'"),
+            ("seal a -o b --lock cryptoapi --major 65536", "2, 3 or 4"),
+            ("seal --lock xor -o b", "name of a file"),
+            ("seal a --lock xor", "'sheet seal' needs -o"),
+            ("seal a x -o b --lock xor", "not taken as an argument"),
+            ("seal a -o b --lock xor -px", "not taken as an argument"),
+            ("seal - -o b --lock xor --password-file -", "standard input"),
         ] {
             let words = parsed(line).unwrap_err();
             assert!(words.contains(word), "{line}: {words}");

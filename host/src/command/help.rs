@@ -1,7 +1,7 @@
 //! What `sheet --help` prints.
 
 pub const HELP: &str = "\
-sheet: looks at, lists and opens protected Excel 97-2003 workbooks
+sheet: looks at, lists, opens and seals protected Excel 97-2003 workbooks
 
   sheet look FILE            tells whether the workbook is locked, and how
   sheet list FILE            lists its records
@@ -11,6 +11,9 @@ sheet: looks at, lists and opens protected Excel 97-2003 workbooks
                              password
   sheet open FILE -o OUT     opens it with its password, and writes the plain
                              stream to OUT
+  sheet seal FILE -o OUT --lock LOCK
+                             seals a plain stream under a new password, and
+                             writes the sealed stream to OUT
   sheet refusals             tells what each number of a refusal means, and
                              what to try
   sheet --help               prints this
@@ -30,15 +33,35 @@ THE PASSWORD comes from the first of these that is there:
                              else; one newline at its end is taken off; a name
                              of - is standard input
   SHEET_PASSWORD             this environment variable, even if it is empty
-  the terminal               the command asks, and does not show what you type
+  the terminal               the command asks, and does not show what you type;
+                             seal asks twice
 
 It can't be given as an argument: other users of the machine see the arguments
 of every command in the process list, and shells keep them in their history.
-The command wipes the password from its memory as soon as the stream is open.
-The environment's own copy it can't wipe: whoever may read the environment of
-the command, or of the shell that started it, finds SHEET_PASSWORD there.
+The command wipes the password from its memory as soon as the stream is open
+or sealed. The environment's own copy it can't wipe: whoever may read the
+environment of the command, or of the shell that started it, finds
+SHEET_PASSWORD there.
 
-OUT gets its name when all of it is on the disk. Until then the plain stream
+THE LOCK of seal goes into a zero record (id 0000, a body of zeros), which a
+stream has that was locked once: where its FILEPASS stood before it was opened.
+The length of its body decides which lock fits:
+
+  --lock cryptoapi           RC4 CryptoAPI, 106 to 1,098 bytes, with
+    --key-size N             the key in bits, 40 to 128 in steps of 8, or 128
+                             if this is left out; and
+    --major N                version N.2, where N is 2, 3 or 4, or 4 if this is
+                             left out
+  --lock office97            Office 97 RC4, 54 bytes; its key has 40 bits
+  --lock xor                 XOR, 6 bytes; its password has 1 to 15 characters,
+                             none beyond U+00FF
+
+XOR and keys of 40 bits do not protect a sheet from anyone who tries, and a
+warning says so each time. The salt and the verifier of the other two locks
+are drawn from the system's random source (/dev/urandom), anew for each
+sealing.
+
+OUT gets its name when all of it is on the disk. Until then what is written
 stands beside it in a file .sheet-NUMBER.part, which is removed if anything
 fails or you press ctrl-C (only kill -9 and a power cut can leave it behind).
 If there is a file OUT already, it is replaced then and not before. FILE is
@@ -67,11 +90,12 @@ PRINTED, with a tab between the columns:
           the document summary, outside of this stream, is enciphered too; and
           output bytes, enciphered body bytes and block keys, as forecast tells
           them. If OUT is - this goes to standard error
+  seal    the same, as open will tell it of OUT
 
 EXIT STATUS
 
   0       done; for look, whatever the answer
-  1       open, directory or forecast was refused: standard error says
+  1       open, seal, directory or forecast was refused: standard error says
           'refused, NUMBER:' and why, and OUT is not written; or list found a
           record that can't be read
   2       the arguments, the input or the output are at fault: standard error
@@ -81,4 +105,5 @@ EXAMPLE
 
   sheet look book.bin
   sheet open book.bin -o plain.bin
+  sheet seal plain.bin -o sealed.bin --lock cryptoapi
 ";

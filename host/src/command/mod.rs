@@ -7,17 +7,18 @@ mod input;
 mod interrupt;
 mod output;
 mod password;
+mod random;
 mod terminal;
 
 use std::ffi::OsString;
 use std::io::{self, BufWriter, ErrorKind, Write};
 use std::process::ExitCode;
 
-use arguments::{Order, PasswordFrom};
+use arguments::{Order, PasswordFrom, SealUnder};
 use failure::Failure;
 use input::Input;
 use output::Output;
-use sheet::{Forecast, Lock, Refusal, Report, Verdict};
+use sheet::{Choice, Forecast, Lock, Refusal, Report, Verdict};
 
 /// The id of a BoundSheet8 record, a sheet's entry: its body begins with the sheet's start.
 const BOUND_SHEET: u16 = 0x0085;
@@ -49,6 +50,12 @@ fn obey(order: Order) -> Result<(), Failure> {
             out,
             password,
         } => open(Input::read(&file)?, &out, &password),
+        Order::Seal {
+            file,
+            out,
+            password,
+            lock,
+        } => seal(Input::read(&file)?, &out, &password, lock),
     }
 }
 
@@ -201,17 +208,108 @@ fn open(input: Input, out: &OsString, password_from: &PasswordFrom) -> Result<()
     }
     .map_err(refused)?;
     output.write(&plain)?;
+    tell(&report, &output, out)
+}
+
+/// Seals a plain stream and writes the sealed one. What can be told without the password is told
+/// before it is asked for.
+fn seal(
+    input: Input,
+    out: &OsString,
+    password_from: &PasswordFrom,
+    lock: SealUnder,
+) -> Result<(), Failure> {
+    let output = Output::prepare(out, &input)?;
+    let plain = &input.stream[..];
+    let refused = |refusal| {
+        let words = format!("{} was not sealed, and nothing was written", input.name);
+        Failure::Refused(refusal, words)
+    };
+    let choice = fresh(lock)?;
+    let mut scratch = [0; sheet::SCRATCH_LEN];
+    let mut sealed = output::room(plain.len())?;
+    let (report, empty) = {
+        let password = password::get_new(password_from, &input.name, || {
+            // With a password that every lock takes, only what is wrong with the rest is refused.
+            // What comes of it is overwritten below.
+            let trial = sheet::seal(plain, b"A", &choice, &mut scratch, &mut sealed);
+            trial.map_err(refused).map(drop)
+        })?;
+        let empty = password.as_bytes().is_empty();
+        let report = sheet::seal(
+            plain,
+            password.as_bytes(),
+            &choice,
+            &mut scratch,
+            &mut sealed,
+        );
+        // The password is wiped here, before anything is written.
+        (report.map_err(refused)?, empty)
+    };
+    output.write(&sealed)?;
+    for words in weaknesses(&report, empty) {
+        // The sealed stream is out, whether standard error takes this or not.
+        let _ = writeln!(io::stderr(), "sheet: warning: {words}");
+    }
+    tell(&report, &output, out)
+}
+
+/// A lock with a salt and a verifier of its own, where it takes them.
+fn fresh(lock: SealUnder) -> Result<Choice, Failure> {
+    Ok(match lock {
+        SealUnder::Xor => Choice::Xor,
+        SealUnder::Office97 => {
+            let (salt, verifier) = random::salt_and_verifier()?;
+            Choice::Office97 { salt, verifier }
+        }
+        SealUnder::CryptoApi { major, key_size } => {
+            let (salt, verifier) = random::salt_and_verifier()?;
+            Choice::CryptoApi {
+                salt,
+                verifier,
+                major,
+                key_size,
+            }
+        }
+    })
+}
+
+/// Why a stream that was sealed is not safe from whoever gets hold of it, as far as the lock and an
+/// empty password show.
+fn weaknesses(report: &Report, empty_password: bool) -> Vec<String> {
+    let mut words = Vec::new();
+    if report.lock == Lock::Xor {
+        words.push(
+            "XOR does not protect a sheet from anyone who tries: the sealed stream itself gives \
+             away what it was enciphered with; RC4 CryptoAPI with 128 bits is stronger"
+                .to_string(),
+        );
+    } else if report.key_bits <= 40 {
+        words.push(format!(
+            "{} with a key of 40 bits does not protect a sheet from anyone who tries: the key is \
+             found by trying them all, whatever the password is; RC4 CryptoAPI with 128 bits is \
+             stronger",
+            report.lock
+        ));
+    }
+    if empty_password {
+        words.push("the password is empty, which is the first that anyone tries".to_string());
+    }
+    words
+}
+
+/// Prints the report of a stream that was written.
+fn tell(report: &Report, output: &Output, out: &OsString) -> Result<(), Failure> {
     if output.is_standard() {
-        // The plain stream is out: a report that standard error does not take changes nothing about
-        // it.
-        let _ = write_report(&mut io::stderr().lock(), &report);
+        // The stream is out: a report that standard error does not take changes nothing about it.
+        let _ = write_report(&mut io::stderr().lock(), report);
         Ok(())
     } else {
         let whole = format!(
             "{} is written and whole, only the report is missing",
             out.to_string_lossy()
         );
-        print(|to| write_report(to, &report)).map_err(|failure| failure.and(&whole))
+        print(|to| write_report(to, report)).map_err(|failure| failure.and(&whole))
     }
 }
 

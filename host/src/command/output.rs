@@ -1,4 +1,4 @@
-//! The plain stream that is written.
+//! The stream that is written.
 
 use std::ffi::{OsStr, OsString};
 use std::fs::{self, File, OpenOptions, Permissions};
@@ -15,7 +15,7 @@ use super::interrupt;
 /// What standard output is called in messages.
 pub const STANDARD: &str = "standard output";
 
-/// Where the plain stream goes.
+/// Where the stream goes.
 pub enum Output {
     Standard,
     File {
@@ -50,11 +50,11 @@ impl Output {
     }
 
     /// Writes all of it. A file gets its name when it is whole, and not before.
-    pub fn write(&self, plain: &[u8]) -> Result<(), Failure> {
+    pub fn write(&self, stream: &[u8]) -> Result<(), Failure> {
         match self {
             Output::Standard => {
                 let mut out = io::stdout().lock();
-                out.write_all(plain)
+                out.write_all(stream)
                     .and_then(|()| out.flush())
                     .map_err(|error| {
                         Failure::writing(STANDARD, &error).and("what came out is not whole")
@@ -64,19 +64,19 @@ impl Output {
                 name,
                 path,
                 permissions,
-            } => replace(path, permissions.as_ref(), plain)
+            } => replace(path, permissions.as_ref(), stream)
                 .map_err(|error| Failure::writing(name, &error)),
         }
     }
 }
 
-/// Memory for the plain stream.
+/// Memory for the stream that is written.
 pub fn room(len: usize) -> Result<Vec<u8>, Failure> {
     let mut room = Vec::new();
     if room.try_reserve_exact(len).is_err() {
         return Err(Failure::at(
             "out of memory",
-            &format!("the plain stream needs {len} bytes"),
+            &format!("the stream to be written needs {len} bytes"),
         ));
     }
     room.resize(len, 0);
@@ -186,13 +186,13 @@ fn folder_of(path: &Path) -> &Path {
 }
 
 /// Writes a file under another name beside it, and gives it its name when all of it is on the disk.
-fn replace(path: &Path, permissions: Option<&Permissions>, plain: &[u8]) -> io::Result<()> {
+fn replace(path: &Path, permissions: Option<&Permissions>, stream: &[u8]) -> io::Result<()> {
     let folder = folder_of(path);
     let (mut file, part) = Part::create(folder)?;
     if let Some(permissions) = permissions {
         file.set_permissions(permissions.clone())?;
     }
-    file.write_all(plain)?;
+    file.write_all(stream)?;
     file.sync_all()?;
     part.rename(path)?;
     // The name is kept over a power cut too, where the disk can promise it.

@@ -1,6 +1,6 @@
 //! Functions of the library, to be called without the wrapper, and all eight facts of such a call.
 
-use sheet::SCRATCH_LEN;
+use sheet::{Choice, SCRATCH_LEN};
 
 extern "C" {
     pub fn sheet_record(
@@ -24,6 +24,48 @@ extern "C" {
         stream_len: usize,
         password: *const u8,
         password_len: usize,
+        scratch: *mut u8,
+        scratch_len: usize,
+        output: *mut u8,
+        output_len: usize,
+        facts: *mut [u64; 8],
+    ) -> u32;
+
+    pub fn sheet_seal_xor(
+        plain: *const u8,
+        plain_len: usize,
+        password: *const u8,
+        password_len: usize,
+        scratch: *mut u8,
+        scratch_len: usize,
+        output: *mut u8,
+        output_len: usize,
+        facts: *mut [u64; 8],
+    ) -> u32;
+
+    pub fn sheet_seal_office97(
+        plain: *const u8,
+        plain_len: usize,
+        password: *const u8,
+        password_len: usize,
+        salt: *const [u8; 16],
+        verifier: *const [u8; 16],
+        scratch: *mut u8,
+        scratch_len: usize,
+        output: *mut u8,
+        output_len: usize,
+        facts: *mut [u64; 8],
+    ) -> u32;
+
+    pub fn sheet_seal_cryptoapi(
+        plain: *const u8,
+        plain_len: usize,
+        password: *const u8,
+        password_len: usize,
+        salt: *const [u8; 16],
+        verifier: *const [u8; 16],
+        major: u16,
+        key_size: u32,
         scratch: *mut u8,
         scratch_len: usize,
         output: *mut u8,
@@ -91,4 +133,77 @@ pub fn open_lent(stream: &[u8], password: &[u8], scratch: usize) -> Answer {
             facts,
         )
     })
+}
+
+#[track_caller]
+pub fn seal(plain: &[u8], password: &[u8], choice: &Choice) -> Answer {
+    seal_lent(plain, password, choice, SCRATCH_LEN)
+}
+
+/// A sealing that is lent a scratch of so many bytes.
+#[track_caller]
+pub fn seal_lent(plain: &[u8], password: &[u8], choice: &Choice, scratch: usize) -> Answer {
+    let mut scratch = vec![0; scratch];
+    let mut output = vec![0; plain.len()];
+    answer(|facts| seal_into(plain, password, choice, &mut scratch, &mut output, facts))
+}
+
+/// A sealing with these buffers.
+pub fn seal_into(
+    plain: &[u8],
+    password: &[u8],
+    choice: &Choice,
+    scratch: &mut [u8],
+    output: &mut [u8],
+    facts: &mut [u64; 8],
+) -> u32 {
+    // SAFETY: as the wrapper has it.
+    unsafe {
+        match choice {
+            Choice::Xor => sheet_seal_xor(
+                plain.as_ptr(),
+                plain.len(),
+                password.as_ptr(),
+                password.len(),
+                scratch.as_mut_ptr(),
+                scratch.len(),
+                output.as_mut_ptr(),
+                output.len(),
+                facts,
+            ),
+            Choice::Office97 { salt, verifier } => sheet_seal_office97(
+                plain.as_ptr(),
+                plain.len(),
+                password.as_ptr(),
+                password.len(),
+                salt,
+                verifier,
+                scratch.as_mut_ptr(),
+                scratch.len(),
+                output.as_mut_ptr(),
+                output.len(),
+                facts,
+            ),
+            Choice::CryptoApi {
+                salt,
+                verifier,
+                major,
+                key_size,
+            } => sheet_seal_cryptoapi(
+                plain.as_ptr(),
+                plain.len(),
+                password.as_ptr(),
+                password.len(),
+                salt,
+                verifier,
+                *major,
+                *key_size,
+                scratch.as_mut_ptr(),
+                scratch.len(),
+                output.as_mut_ptr(),
+                output.len(),
+                facts,
+            ),
+        }
+    }
 }

@@ -11,10 +11,10 @@ pub const EOF: u16 = 0x000A;
 /// A record whose body is clear, and one whose body is enciphered whole.
 pub const CLEAR: u16 = 0x00E1;
 pub const ROW: u16 = 0x0204;
-const SEVEN: [u16; 7] = [BOF, FILEPASS, CLEAR, 0x0138, 0x0194, 0x0195, 0x0196];
+pub const SEVEN: [u16; 7] = [BOF, FILEPASS, CLEAR, 0x0138, 0x0194, 0x0195, 0x0196];
 
 pub const SALT: [u8; 16] = *b"0123456789:;<=>?";
-const VERIFIER: [u8; 16] = *b"\xC0\xC1\xC2\xC3\xC4\xC5\xC6\xC7\xC8\xC9\xCA\xCB\xCC\xCD\xCE\xCF";
+pub const VERIFIER: [u8; 16] = *b"\xC0\xC1\xC2\xC3\xC4\xC5\xC6\xC7\xC8\xC9\xCA\xCB\xCC\xCD\xCE\xCF";
 
 /// The length of a keystream's block.
 pub const BLOCK: usize = 1024;
@@ -46,20 +46,30 @@ impl Kind {
 
     /// The password's digest: H0 of both RC4 locks.
     pub fn digest(self, password: &str) -> Vec<u8> {
+        self.salted_digest(&SALT, password)
+    }
+
+    fn salted_digest(self, salt: &[u8; 16], password: &str) -> Vec<u8> {
         let text = utf16(password);
         match self {
             Kind::Xor => Vec::new(),
             Kind::Office97 => {
                 let first = &md5(&text)[..5];
-                md5(&[first, &SALT].concat().repeat(16))[..5].to_vec()
+                md5(&[first, salt].concat().repeat(16))[..5].to_vec()
             }
-            Kind::CryptoApi(..) => sha1(&[&SALT[..], &text].concat()).to_vec(),
+            Kind::CryptoApi(..) => sha1(&[&salt[..], &text].concat()).to_vec(),
         }
     }
 
     /// The key of a block, of both RC4 locks.
     pub fn block_key(self, password: &str, block: u32) -> Vec<u8> {
-        let message = [self.digest(password), block.to_le_bytes().to_vec()].concat();
+        self.salted_block_key(&SALT, password, block)
+    }
+
+    /// The same under another salt.
+    pub fn salted_block_key(self, salt: &[u8; 16], password: &str, block: u32) -> Vec<u8> {
+        let digest = self.salted_digest(salt, password);
+        let message = [digest, block.to_le_bytes().to_vec()].concat();
         match self {
             Kind::Xor => Vec::new(),
             Kind::Office97 => md5(&message).to_vec(),

@@ -1,6 +1,6 @@
-//! The buffers that are lent to an opening.
+//! The buffers that are lent to an opening or a sealing.
 
-use sheet::{Refusal, Report, SCRATCH_LEN};
+use sheet::{Choice, Refusal, Report, SCRATCH_LEN};
 
 use super::guarded::{Guarded, FILL};
 
@@ -8,7 +8,7 @@ use super::guarded::{Guarded, FILL};
 /// wrapper is noticed.
 const ZEROED: usize = 64;
 
-/// The buffers of a call to `open`.
+/// The buffers of a call to `open` or `seal`.
 pub struct Lent {
     stream: Guarded,
     password: Guarded,
@@ -35,7 +35,26 @@ impl Lent {
     /// output if refused, and that the scratch is as promised.
     #[track_caller]
     pub fn open(&mut self) -> Result<Report, Refusal> {
-        let answer = sheet::open(
+        self.call(sheet::open)
+    }
+
+    /// Seals, and sees to the same, and that the choice is as it was.
+    #[track_caller]
+    pub fn seal(&mut self, choice: &Choice) -> Result<Report, Refusal> {
+        let before = *choice;
+        let answer = self.call(|plain, password, scratch, output| {
+            sheet::seal(plain, password, choice, scratch, output)
+        });
+        assert_eq!(*choice, before);
+        answer
+    }
+
+    #[track_caller]
+    fn call(
+        &mut self,
+        call: impl FnOnce(&[u8], &[u8], &mut [u8], &mut [u8]) -> Result<Report, Refusal>,
+    ) -> Result<Report, Refusal> {
+        let answer = call(
             self.stream.get(),
             self.password.get(),
             self.scratch.get_mut(),
@@ -67,7 +86,20 @@ impl Lent {
     #[track_caller]
     pub fn open_to(&mut self, plain: &[u8]) -> Report {
         let report = self.open().unwrap();
-        assert!(&self.output.get()[..self.stream.get().len()] == plain);
+        assert!(self.written() == plain);
         report
+    }
+
+    /// Seals, and sees that the sealed stream comes out.
+    #[track_caller]
+    pub fn seal_to(&mut self, choice: &Choice, sealed: &[u8]) -> Report {
+        let report = self.seal(choice).unwrap();
+        assert!(self.written() == sealed);
+        report
+    }
+
+    /// What was written to the output, by a call that was not refused.
+    pub fn written(&self) -> &[u8] {
+        &self.output.get()[..self.stream.get().len()]
     }
 }

@@ -14,6 +14,7 @@ pub mod passwords;
 pub mod process;
 pub mod pty;
 pub mod rc4;
+pub mod sealing;
 pub mod walk;
 pub mod xor;
 
