@@ -16,6 +16,7 @@ use Rattle.binary_office.specs.Walk.{BiffRecord, walk, recordsEnd, clearLen}
 use Rattle.file_params.specs.declared.Refusal.{Refusal}
 use Rattle.file_params.specs.declared.Refusal.the-variants.{XorPasswordUnfit}
 use Rattle.file_params.specs.Refusal.{number}
+use Rattle.file_params.specs.Numbers.{numbers}
 use Rattle.file_params.specs.Questions.{Question, scratchNeed, ask, asked, lent, inOrder}
 use Rattle.file_params.proofs.Tables.{given-passes}
 use Rattle.survey.specs.Survey.{lenOf, encipheredBytes}
@@ -32,7 +33,7 @@ use Rattle.sealing.specs.declared.Answer.{Answer}
 use Rattle.sealing.specs.declared.Answer.the-variants.{Sealed, Refused}
 use Rattle.sealing.specs.Filepass.{filepassFor}
 use Rattle.sealing.specs.Seal.{zeroOf, admitted, fits, zeroed, takes, ofPlain, sealQuestions, sealedByte, sealed, Outcome, outcomeBy, outcome, Seals}
-use Rattle.sealing.specs.Theorems.{Clear, in-record, in-padding, AlikeSealed, TwoSealings, AlikeRefused}
+use Rattle.sealing.specs.Theorems.{expected, SealNumbered, Clear, in-record, in-padding, AlikeSealed, TwoSealings, AlikeRefused}
 use Rattle.sealing.proofs.Bodies.{ReadBack, reportFor, read-back}
 use Rattle.sealing.proofs.Sealed.{length-sealed, sealed-at, old-byte, reported}
 use Rattle.sealing.proofs.Runs.{HasSealed, has-sealed}
@@ -221,3 +222,13 @@ alike-refused =
         → outcomeBy plain p choice salt verifier scratch output (decided c true) .scratch ≡ outcomeBy plain q choice salt′ verifier′ scratch output (decided c true) .scratch
     same-wipe plain p q choice salt verifier salt′ verifier′ scratch output none = refl
     same-wipe plain p q choice salt verifier salt′ verifier′ scratch output (some r) = refl
+
+-- the numbers of the checks
+pub seal-numbered : SealNumbered
+unfolding sealQuestions lent ofPlain inOrder admitted zeroed
+seal-numbered = record { numbered = by-choice }
+  where
+    by-choice : (plain password : List ℕ) (choice : Choice) (scratch output : List ℕ) → numbers (sealQuestions plain password choice scratch output) ≡ expected choice
+    by-choice plain password Xor scratch output = refl
+    by-choice plain password Office97 scratch output = refl
+    by-choice plain password (CryptoApi major bits) scratch output = refl

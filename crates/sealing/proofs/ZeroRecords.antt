@@ -1,5 +1,5 @@
 -- The zero record of a walk, taken record after record: where it is found it stands there, and the records before it are of the seven ids, none of them a FILEPASS.
--- With id 002F it is the first FILEPASS, with no other id before it, and its body is no longer counted as enciphered.
+-- With id 002F it is the first FILEPASS, with no other id before it, and its body is not counted as enciphered.
 -- Assumes nothing.
 use mathlib.Core.Path.{_≡_, refl, sym, ap, _∙_}
 use mathlib.Core.Bool.{Bool, true, false, _&&_}

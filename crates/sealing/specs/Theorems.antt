@@ -3,23 +3,34 @@
 use mathlib.Core.Path.{_≡_}
 use Prim.Native.Nat.{ℕ, _+_, _≤_, _<_}
 use mathlib.Core.Bool.{true, false}
-use mathlib.Core.List.{List}
+use mathlib.Core.List.{List, [], _∷_}
 use mathlib.Core.Option.{none, some}
 use lib.ListN.{length, getD, take, drop}
 use Rattle.sensitive.specs.Utf8.{wellFormed}
 use Rattle.binary_office.specs.Walk.{BiffRecord, walk, recordsEnd, clearLen}
 use Rattle.file_params.specs.declared.Refusal.{Refusal}
 use Rattle.file_params.specs.declared.Refusal.the-variants.{XorPasswordUnfit}
+use Rattle.file_params.specs.Numbers.{numbers}
 use Rattle.file_params.specs.Questions.{scratchNeed, asked, filepassBody}
 use Rattle.excel97.specs.declared.Report.{Report}
 use Rattle.excel97.specs.declared.Answer as excel97
 use Rattle.excel97.specs.declared.Answer.the-variants.{Opened}
 use Rattle.excel97.specs.Open.{recordAt, blanked, Opens}
 use Rattle.sealing.specs.declared.Choice.{Choice}
+use Rattle.sealing.specs.declared.Choice.the-variants.{Xor, Office97, CryptoApi}
 use Rattle.sealing.specs.declared.Answer.{Answer}
 use Rattle.sealing.specs.declared.Answer.the-variants.{Sealed, Refused}
 use Rattle.sealing.specs.Filepass.{filepassFor}
-use Rattle.sealing.specs.Seal.{zeroOf, admitted, fits, takes, Seals}
+use Rattle.sealing.specs.Seal.{zeroOf, admitted, fits, takes, sealQuestions, Seals}
+
+-- the numbers of the checks, in their order: "1 to 7 in order, 13 (major, 2), 23 (key size; 0 is refused), then 30 [..]; 31 [..]; 32"
+abbrev pub expected : Choice → List ℕ
+expected Xor = 1 ∷ 2 ∷ 3 ∷ 4 ∷ 5 ∷ 6 ∷ 7 ∷ 30 ∷ 31 ∷ 32 ∷ []
+expected Office97 = 1 ∷ 2 ∷ 3 ∷ 4 ∷ 5 ∷ 6 ∷ 7 ∷ 30 ∷ 31 ∷ 32 ∷ []
+expected (CryptoApi major bits) = 1 ∷ 2 ∷ 3 ∷ 4 ∷ 5 ∷ 6 ∷ 7 ∷ 13 ∷ 23 ∷ 30 ∷ 31 ∷ 32 ∷ []
+
+pub record SealNumbered : Type 0 where
+  pub numbered : (plain password : List ℕ) (choice : Choice) (scratch output : List ℕ) → numbers (sealQuestions plain password choice scratch output) ≡ expected choice
 
 -- a list of bytes, as every slice is
 abbrev pub Bytes : List ℕ → Type 0
@@ -71,7 +82,7 @@ pub record AlikeSealed : Type 0 where
       × ((o : ℕ) → Clear plain o → blanked (zeroOf plain) o ≡ false → (getD output₁ o 0 ≡ getD plain o 0) × (getD output₂ o 0 ≡ getD plain o 0))
 
 -- two runs that are lent the same, with two passwords that pass questions 1 and 2
-pub record TwoSealings (plain : List ℕ) (choice : Choice) (p q scratch : List ℕ) (a b : Answer) (output scratch₁ output₁ scratch₂ output₂ : List ℕ) : Type 0 where
+pub record TwoSealings (choice : Choice) (p q : List ℕ) (a b : Answer) (output scratch₁ output₁ scratch₂ output₂ : List ℕ) : Type 0 where
   -- a refusal other than 32 is given to both
   pub same-refusal : (r : Refusal) → (r ≡ XorPasswordUnfit → ⊥) → a ≡ Refused r → b ≡ Refused r
   -- 32 is given only to a password that the choice does not take, and one that seals is one that it takes
@@ -89,4 +100,4 @@ pub record AlikeRefused : Type 0 where
       → wellFormed p ≡ true → length p ≤ 1024 → wellFormed q ≡ true → length q ≤ 1024
       → Seals plain p choice salt verifier scratch output a scratch₁ output₁
       → Seals plain q choice salt′ verifier′ scratch output b scratch₂ output₂
-      → TwoSealings plain choice p q scratch a b output scratch₁ output₁ scratch₂ output₂
+      → TwoSealings choice p q a b output scratch₁ output₁ scratch₂ output₂

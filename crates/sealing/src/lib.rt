@@ -1,5 +1,5 @@
-// Sealing: a plain workbook stream put under a password again, in the zero record where its FILEPASS stood. Request T-07
-// of document 02; the Rust source only opens. The questions, the walk, the block loop and the record loop are Open's.
+// Sealing: a plain workbook stream put under a password, with the lock in its zero record, as opening leaves one where
+// FILEPASS stood. Request T-07 of document 02; the Rust source only opens. The questions, the walk, the block loop and the record loop are Open's.
 ghost use mathlib.Core.Path.{_≡_};
 ghost use mathlib.Core.Bool.{true, false, _&&_};
 ghost use mathlib.Core.List.{_++_};
@@ -365,7 +365,7 @@ fn lock_crypto_api(
     made.keys
 }
 
-// What opening the sealed stream will report. The body of the zero record is not enciphered any more.
+// What opening the sealed stream will report.
 fn report(
     records: usize,
     lock: excel97::Lock,
