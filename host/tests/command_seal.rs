@@ -11,6 +11,7 @@ use common::bench::{Bench, Ran, PASSWORD, REPORT};
 use common::book::{joined, Book, Kind, BOF, BOUND_SHEET, EOF, ROW};
 use common::passwords::longest;
 use common::process::{run, Process};
+use common::rc4::Rc4;
 use common::sealing::{sheet_with, ZERO};
 
 /// What the warnings have in common.
@@ -163,7 +164,10 @@ fn the_warnings_say_what_is_weak() {
 #[test]
 fn each_sealing_has_a_salt_and_a_verifier_of_its_own() {
     let bench = Bench::new();
-    for (lock, len) in [("cryptoapi", 106), ("office97", 54)] {
+    for (lock, len, kind) in [
+        ("cryptoapi", 106, Kind::CryptoApi(128, false)),
+        ("office97", 54, Kind::Office97),
+    ] {
         let plain = sheet(len);
         bench.write("plain", &plain);
         let mut seen: Vec<Vec<u8>> = Vec::new();
@@ -174,9 +178,11 @@ fn each_sealing_has_a_salt_and_a_verifier_of_its_own() {
             // Salt and enciphered verifier of 16 bytes, before the digest of 20 bytes and its size
             // or of 16 bytes.
             let end = 18 + len - if len == 106 { 24 } else { 16 };
-            let salt = sealed[end - 32..end - 16].to_vec();
-            let verifier = sealed[end - 16..end].to_vec();
-            for bytes in [salt, verifier] {
+            let salt: [u8; 16] = sealed[end - 32..end - 16].try_into().unwrap();
+            // The verifier as it was drawn: enciphered it differs with the salt alone.
+            let key = kind.salted_block_key(&salt, "Unruh", 0);
+            let verifier = Rc4::new(&key).apply(&sealed[end - 16..end]);
+            for bytes in [salt.to_vec(), verifier] {
                 assert!(bytes.iter().any(|byte| *byte != 0));
                 assert!(!seen.contains(&bytes), "{lock}");
                 seen.push(bytes);

@@ -231,7 +231,7 @@ fn seal(
     let (report, empty) = {
         let password = password::get_new(password_from, &input.name, || {
             // With a password that every lock takes, only what is wrong with the rest is refused.
-            // What comes of it is overwritten below.
+            // What comes of it is never written out.
             let trial = sheet::seal(plain, b"A", &choice, &mut scratch, &mut sealed);
             trial.map_err(refused).map(drop)
         })?;
