@@ -2,7 +2,7 @@
 """Writes the data of the program `sealings`, crates/sealings/data/cases_1 to cases_3, and what it is to print, crates/sealings/stdout.
 
 Usage, at the root of the project: tools/make_sealings.py. Needs OpenSSL's libcrypto. A sealed stream is not made from a plain one: books.py makes both from
-their records, with CPython's MD5 and SHA-1, OpenSSL's RC4 (libcrypto's RC4_set_key and RC4, by ctypes) and Apache POI's key, verifier and array of an XOR
+their records, with CPython's MD5 and SHA-1, OpenSSL's RC4 (libcrypto's RC4_set_key and RC4, by ctypes) and Apache POI's key, verifier and array (rotated back by three bits, as XorVectors.java has it) of an XOR
 password, and the report is what locking took. Above U+007F POI's values are not MS-OFFCRYPTO's (docs/DIFFERENCES.md); those of the passwords in LATIN are
 the Rust source's, as `differ xor` of oracle/ prints them. Each refusal is stated here beside its case, from document 02's list of checks (T-07). Salt and
 verifier of a case are MD5 digests of words with its name, so that they are fixed and differ from case to case.

@@ -11,7 +11,7 @@ ghost use Rattle.laws.specs.Choice.{within};
 // The first bytes of a stream that are looked at for a FILEPASS record.
 pub const BIFF_SCAN_CAP: usize = 0x10_0000;
 
-// The longest stream that is opened, which the source sets to its PAYLOAD_CEILING.
+// The longest stream that is opened or sealed, which the source sets to its PAYLOAD_CEILING.
 pub const LEGACY_STREAM_READ_CAP: usize = 0x4000_0000;
 
 // The largest encryption header, and the fixed fields that the smallest consists of.
@@ -29,7 +29,7 @@ pub const RC4_KEY_BITS_DEFAULT: u32 = 40;
 // The most characters of an XOR password.
 pub const XOR_PASSWORD_MAX_LEN: usize = 15;
 
-// The longest password in bytes, and the scratch that opening asks for.
+// The longest password in bytes, and the scratch that opening and sealing ask for.
 pub const PASSWORD_MAX_LEN: usize = 1024;
 
 pub const SCRATCH_LEN: usize = 64;

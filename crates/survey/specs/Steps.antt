@@ -1,4 +1,4 @@
--- What the private functions of the survey answer, in terms of its definitions. Nothing that is promised outside rests on this file.
+-- What the functions of the survey answer to each other, in terms of its definitions; `foundOf` is cited by the crates above too.
 -- Assumes nothing.
 use Prim.Native.Nat.{ℕ}
 use mathlib.Core.List.{List, _++_}

@@ -37,7 +37,7 @@ pub enum Surveyed {
     Refused(file_params::Refusal),
 }
 
-// Where the first FILEPASS is: the offset of its header, and the length of its body.
+// Where a record is, the first FILEPASS or a zero record: the offset of its header, and the length of its body.
 pub enum Found {
     At(usize, u16),
     Nothing,
