@@ -57,16 +57,6 @@ written-over f b m e d d′ d″ h k v w =
       after = λ i l. w .after i l ∙ v .after i (omega arith);
     }
 
--- a part up to e, and then one from the start that reaches into it
-pub written-under : (f : ℕ → ℕ) (b m e : ℕ) (d d′ d″ : List ℕ) → b ≤ m → m ≤ e → Written f b e d d′ → Written f 0 m d′ d″ → Written f 0 e d d″
-written-under f b m e d d′ d″ h k v w =
-    record {
-      same = w .same ∙ v .same;
-      before = λ i l. w .before i l ∙ v .before i (omega arith);
-      inside = λ i l g. either m i (λ n. w .after i n ∙ v .inside i (omega arith) g) (λ n. w .inside i l n);
-      after = λ i l. w .after i (omega arith) ∙ v .after i l;
-    }
-
 -- as many bytes as both have room for
 pub transforms : (way : Way) (array : List ℕ) (index : ℕ) (s d d′ : List ℕ) (n : ℕ) → n ≡ min (length s) (length d) → Written (transformedAt way array index s) 0 n d d′
     → Transforms way array index s d d′

@@ -405,8 +405,8 @@ fn deciphered_pieces(twice: &[u8; 32], index: usize, src: &[u8], dst: &mut [u8],
     );
 }
 
-// The same, enciphered. The last piece comes first: where both ways end alike, LLVM merges their ends and works
-// there byte by byte.
+// The same, enciphered. The last piece is one more turn of the loop: where both ways end alike, LLVM merges their ends
+// and works there byte by byte.
 fn enciphered_pieces(twice: &[u8; 32], index: usize, src: &[u8], dst: &mut [u8], n: usize)
     requires { ⌜ (16 ≤ n) × (n ≤ length (now src)) × (n ≤ length (now dst)) ⌝ }
     ensures { λ _. ⌜ ((array : List ℕ) → now (twice .entry) ≡ twiceOver array
@@ -414,14 +414,14 @@ fn enciphered_pieces(twice: &[u8; 32], index: usize, src: &[u8], dst: &mut [u8],
 {
     let first = index % 16;
     let last = n - 16;
-    put(
-        enciphered_piece(twice, (first + n) % 16, src, last),
-        dst,
-        last,
-    );
     let mut at = 0;
-    while at < last {
-        put(enciphered_piece(twice, first, src, at), dst, at);
+    while at < n {
+        let from = least(at, last);
+        put(
+            enciphered_piece(twice, (first + from) % 16, src, from),
+            dst,
+            from,
+        );
         at += 16;
     }
 }
