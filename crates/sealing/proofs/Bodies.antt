@@ -122,7 +122,7 @@ module _ (password p : List ℕ) (e : ansi password ≡ some p) where
 
   verifier-read : le16 (xorBody p) 4 ≡ passwordVerifier p
   unfolding xorBody
-  verifier-read = two-read (passwordVerifier p) (verifier-fits p (ansi-fits password p e))
+  verifier-read = two-read (passwordVerifier p) (verifier-fits p)
 
   xor-opens : passes (xorBody p) password ≡ true
   unfolding passes

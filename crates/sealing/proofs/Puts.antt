@@ -6,13 +6,9 @@ use Prim.Native.Nat.{ℕ, _+_, _-_, _≤_, _<_}
 use native.Mathlib.Omega.{arith}
 use lib.ListN.{length, getD, length-append, List·getD-append}
 use lib.Seq.{getD-append-add}
-use Rattle.laws.proofs.Written.{Written, written-join}
+use Rattle.laws.proofs.Written.{written-join}
+use Rattle.block_keys.proofs.Parts.{written-by}
 use Rattle.sealing.specs.Steps.{Put}
-
--- a part that is written by one function is written by any that agrees with it there
-pub written-as : (f g : ℕ → ℕ) (a e : ℕ) (d d′ : List ℕ) → ((i : ℕ) → a ≤ i → i < e → f i ≡ g i) → Written f a e d d′ → Written g a e d d′
-written-as f g a e d d′ same w =
-    record { same = w .same; before = w .before; inside = λ i h k. w .inside i h k ∙ same i h k; after = w .after }
 
 pub put-join : (a b : List ℕ) (at : ℕ) (d d₁ d₂ : List ℕ) → Put a at d d₁ → Put b (at + length a) d₁ d₂ → Put (a ++ b) at d d₂
 put-join a b at d d₁ d₂ v w =
@@ -20,8 +16,8 @@ put-join a b at d d₁ d₂ v w =
     let e : at + length (a ++ b) ≡ at + length a + length b = omega arith in
     rw e
     (written-join f at (at + length a) (at + length a + length b) d d₁ d₂ (omega arith) (omega arith)
-    (written-as (λ (o : ℕ). getD a (o - at) 0) f at (at + length a) d d₁ (λ i h k. sym (List·getD-append a b 0 (i - at) (omega arith))) v)
-    (written-as (λ (o : ℕ). getD b (o - (at + length a)) 0) f (at + length a) (at + length a + length b) d₁ d₂ (λ i h k. sym (second i h)) w))
+    (written-by (λ (o : ℕ). getD a (o - at) 0) f at (at + length a) d d₁ (λ i h k. sym (List·getD-append a b 0 (i - at) (omega arith))) v)
+    (written-by (λ (o : ℕ). getD b (o - (at + length a)) 0) f (at + length a) (at + length a + length b) d₁ d₂ (λ i h k. sym (second i h)) w))
   where
     f : ℕ → ℕ
     f o = getD (a ++ b) (o - at) 0

@@ -120,8 +120,8 @@ step-fits v b h =
     let high = (v * 2) % 2 ^ 15 in
     xor-lt 16 (bitOr low high) b (or-lt 16 low high (omega arith) (omega arith)) (omega arith)
 
-pub verifier-fits : (p : List ℕ) → ((j : ℕ) → getD p j 0 < 256) → passwordVerifier p < 65536
+pub verifier-fits : (p : List ℕ) → passwordVerifier p < 65536
 unfolding passwordVerifier walked
-verifier-fits p h =
+verifier-fits p =
     let n = min (length p) 255 in
     xor-lt 16 (verifierStep (walked p) n) 0xCE4B (step-fits (walked p) n (omega arith)) (omega arith)
