@@ -3,8 +3,8 @@
    how deep into the stack a call goes, by painting it, with a short password and with one of 1,024 bytes, and asks question 4 on both sides of its boundary. */
 #define _GNU_SOURCE
 #include "../include/sheet.h"
+#include "depth.h"
 #include "stream.h"
-#include <pthread.h>
 #include <stdint.h>
 #include <stdio.h>
 #include <stdlib.h>
@@ -14,7 +14,7 @@
 size_t gcc_open(const uint8_t *stream, size_t len, const uint8_t *password, size_t password_len, uint8_t *out);
 size_t llvm_open(const uint8_t *stream, size_t len, const uint8_t *password, size_t password_len, uint8_t *out);
 
-enum { SIZE = 64 << 20, ROUNDS = 7, STACK = 1 << 20, PAINT = 0xa5 };
+enum { SIZE = 64 << 20, ROUNDS = 7 };
 static uint8_t *out, scratch[SHEET_SCRATCH_LEN];
 
 static void by(int who, size_t len)
@@ -59,27 +59,8 @@ static uint32_t answer;
 static void *call(void *who)
 {
     uint64_t facts[8];
-    if (who)
-        answer = sheet_open(stream, called_len, password, password_len, scratch, sizeof scratch, out, called_len, facts);
-    return NULL;
-}
-
-/* the bytes of a painted stack that a thread leaves otherwise */
-static size_t depth(void *who)
-{
-    uint8_t *stack = mmap(NULL, STACK, PROT_READ | PROT_WRITE, MAP_PRIVATE | MAP_ANONYMOUS, -1, 0);
-    pthread_attr_t attr;
-    pthread_t thread;
-    memset(stack, PAINT, STACK);
-    pthread_attr_init(&attr);
-    pthread_attr_setstack(&attr, stack, STACK);
-    pthread_create(&thread, &attr, call, who);
-    pthread_join(thread, NULL);
-    size_t low = 0;
-    while (low < STACK && stack[low] == PAINT)
-        low++;
-    munmap(stack, STACK);
-    return STACK - low;
+    answer = sheet_open(stream, called_len, password, password_len, scratch, sizeof scratch, out, called_len, facts);
+    return who;
 }
 
 /* question 4, on both sides: a stream of zeros walks, and does not start with BOF */
@@ -111,7 +92,7 @@ int main(void)
     }
     for (int lock = 0; lock < 3; lock++) {
         called_len = make(lock, 128, 14, 1 << 16);
-        size_t none = depth(NULL), with_short = depth(stream) - none;
+        size_t with_short = depth(call);
         if (answer)
             return 1;
         /* XOR takes 15 characters at the most, so there the longest password is tried on the same stream and refused */
@@ -122,7 +103,7 @@ int main(void)
             password[password_len] = (uint8_t)('a' + password_len % 26);
         if (lock)
             called_len = make(lock, 128, 14, 1 << 16);
-        size_t with_longest = depth(stream) - none;
+        size_t with_longest = depth(call);
         if (answer != (lock ? 0 : 27))
             return 1;
         memcpy(password, kept, sizeof kept);

@@ -1,6 +1,8 @@
 /* Times sealing beside opening, in one run, in turns, on the same streams of 64 MiB: each figure is the median of ten rounds. What is sealed is compared with the stream
-   that OpenSSL locked, behind its FILEPASS, and what is opened with the plain stream. */
+   that OpenSSL locked, behind its FILEPASS, and what is opened with the plain stream. Then finds how deep into the stack sealing goes. */
+#define _GNU_SOURCE
 #include "../include/sheet.h"
+#include "depth.h"
 #include "stream.h"
 #include <stdio.h>
 #include <stdlib.h>
@@ -60,6 +62,17 @@ static void beside(const char *name, int lock, size_t body)
     printf("%s, bodies of %5zu: sealing %6.0f MB/s, opening %6.0f MB/s, sealing takes %.3f of the time of opening\n", name, body, len / s / 1e6, len / o / 1e6, s / o);
 }
 
+static int called_lock;
+static size_t called_len;
+static uint32_t answer;
+
+static void *call(void *who)
+{
+    uint64_t facts[8];
+    answer = seal(called_lock, called_len, facts);
+    return who;
+}
+
 int main(void)
 {
     plain = malloc(SIZE);
@@ -71,6 +84,13 @@ int main(void)
     for (int lock = 0; lock < 3; lock++) {
         beside(names[lock], lock, 8224);
         beside(names[lock], lock, 14);
+    }
+    for (called_lock = 0; called_lock < 3; called_lock++) {
+        called_len = make(called_lock, 128, 14, 1 << 16);
+        size_t deep = depth(call);
+        if (answer)
+            return 1;
+        printf("%s: sealing takes %zu bytes of stack\n", names[called_lock], deep);
     }
     return 0;
 }
