@@ -419,6 +419,38 @@ fn the_input_is_never_the_output() {
 }
 
 #[test]
+fn the_password_file_is_never_the_output() {
+    let bench = bench();
+    bench.write("password", PASSWORD.as_bytes());
+    fs::hard_link(bench.folder.join("password"), bench.folder.join("hard")).unwrap();
+    symlink("password", bench.folder.join("soft")).unwrap();
+    let same = "this is the password file";
+    for file in ["password", "hard", "soft", "./password"] {
+        for out in ["password", "hard", "soft", "./password"] {
+            for line in ["seal plain --lock cryptoapi", "open calibres.bin"] {
+                let ran = bench.run(&format!("{line} -o {out} --password-file {file}"));
+                ran.failed(2, &[&format!("sheet: {out}: "), same]);
+            }
+        }
+    }
+    let line = "seal plain -o hard --lock cryptoapi --password-file -";
+    let ran = bench.run_on(line, bench.file("password"));
+    ran.failed(2, &["sheet: hard: ", same]);
+    let appended = OpenOptions::new()
+        .append(true)
+        .open(bench.folder.join("hard"))
+        .unwrap();
+    let mut command = bench.command("seal plain -o - --lock cryptoapi --password-file soft");
+    Ran::to(appended, &mut command).failed(2, &["sheet: standard output: ", same]);
+    bench.has_only(&["hard", "password", "plain", "soft"]);
+    assert!(bench.read("password") == PASSWORD.as_bytes());
+    // Any other file is replaced.
+    bench.write("other", PASSWORD.as_bytes());
+    let ran = bench.run("seal plain -o other --lock cryptoapi --password-file password");
+    assert_eq!(ran.status, Some(0));
+}
+
+#[test]
 fn an_output_that_is_there_is_replaced_when_the_new_one_is_whole() {
     let bench = bench();
     let path = bench.write("sealed", b"old");

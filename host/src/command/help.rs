@@ -65,7 +65,7 @@ OUT gets its name when all of it is on the disk. Until then what is written
 stands beside it in a file .sheet-*.part, which is removed if anything
 fails or you press ctrl-C (only kill -9 and a power cut can leave it behind).
 If there is a file OUT already, it is replaced then and not before. FILE is
-never changed, and OUT can't be FILE under another name.
+never changed, and OUT can't be FILE or the password file under another name.
 
 PRINTED, with a tab between the columns:
 

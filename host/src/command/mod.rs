@@ -191,7 +191,7 @@ fn write_forecast(out: &mut dyn Write, told: &Forecast) -> io::Result<()> {
 /// Opens a stream and writes the plain one. What can be told without the password is told before it
 /// is asked for.
 fn open(input: Input, out: &OsString, password_from: &PasswordFrom) -> Result<(), Failure> {
-    let output = Output::prepare(out, &input)?;
+    let output = Output::prepare(out, &input, password_from)?;
     let stream = &input.stream[..];
     let refused = |refusal| {
         let words = format!("{} was not opened, and nothing was written", input.name);
@@ -219,7 +219,7 @@ fn seal(
     password_from: &PasswordFrom,
     lock: SealUnder,
 ) -> Result<(), Failure> {
-    let output = Output::prepare(out, &input)?;
+    let output = Output::prepare(out, &input, password_from)?;
     let plain = &input.stream[..];
     let refused = |refusal| {
         let words = format!("{} was not sealed, and nothing was written", input.name);

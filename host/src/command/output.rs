@@ -1,19 +1,30 @@
 //! The stream that is written.
 
 use std::ffi::{OsStr, OsString};
-use std::fs::{self, File, OpenOptions, Permissions};
+use std::fs::{self, File, Metadata, OpenOptions, Permissions};
 use std::io::{self, ErrorKind, IsTerminal, Write};
 use std::os::fd::AsFd;
 use std::os::unix::ffi::OsStrExt;
 use std::path::{Path, PathBuf};
 use std::process;
 
+use super::arguments::PasswordFrom;
 use super::failure::Failure;
-use super::input::{identity, Input};
-use super::interrupt;
+use super::input::{identity, Identity, Input};
+use super::{interrupt, password};
 
 /// What standard output is called in messages.
 pub const STANDARD: &str = "standard output";
+
+/// The files that are read and stay as they are: which they are, and what is said of an output that
+/// is one of them.
+type Kept = [(Option<Identity>, &'static str); 2];
+
+const SAME_AS_INPUT: &str =
+    "this is the very file that is read, which stays as it is: name another file to write";
+
+const SAME_AS_PASSWORD: &str =
+    "this is the password file, which stays as it is: name another file to write";
 
 /// Where the stream goes.
 pub enum Output {
@@ -30,15 +41,19 @@ pub enum Output {
 
 impl Output {
     /// Sees that the output can be written, as far as this can be told beforehand, and that it is
-    /// not the input.
-    pub fn prepare(out: &OsStr, input: &Input) -> Result<Output, Failure> {
+    /// neither the input nor the password file.
+    pub fn prepare(out: &OsStr, input: &Input, from: &PasswordFrom) -> Result<Output, Failure> {
+        let kept = [
+            (input.identity, SAME_AS_INPUT),
+            (password::identity_of(from), SAME_AS_PASSWORD),
+        ];
         if out == "-" {
-            return standard(input);
+            return standard(&kept);
         }
         let name = out.to_string_lossy().into_owned();
         let path = Path::new(out);
         match fs::symlink_metadata(path) {
-            Ok(_) => existing(name, path, input),
+            Ok(_) => existing(name, path, &kept),
             Err(error) if error.kind() == ErrorKind::NotFound => new(name, out),
             Err(error) => Err(Failure::writing(&name, &error)),
         }
@@ -83,7 +98,7 @@ pub fn room(len: usize) -> Result<Vec<u8>, Failure> {
     Ok(room)
 }
 
-fn standard(input: &Input) -> Result<Output, Failure> {
+fn standard(kept: &Kept) -> Result<Output, Failure> {
     if io::stdout().is_terminal() {
         return Err(Failure::at(
             STANDARD,
@@ -95,15 +110,13 @@ fn standard(input: &Input) -> Result<Output, Failure> {
         .try_clone_to_owned()
         .and_then(|out| File::from(out).metadata());
     if let Ok(metadata) = metadata {
-        if identity(&metadata).is_some_and(|out| Some(out) == input.identity) {
-            return Err(same_file(STANDARD));
-        }
+        see_that_it_is_none(STANDARD, &metadata, kept)?;
     }
     Ok(Output::Standard)
 }
 
 /// An output that is there already.
-fn existing(name: String, path: &Path, input: &Input) -> Result<Output, Failure> {
+fn existing(name: String, path: &Path, kept: &Kept) -> Result<Output, Failure> {
     let metadata = match fs::metadata(path) {
         Ok(metadata) => metadata,
         Err(error) if error.kind() == ErrorKind::NotFound => {
@@ -127,9 +140,7 @@ fn existing(name: String, path: &Path, input: &Input) -> Result<Output, Failure>
              output",
         ));
     }
-    if identity(&metadata).is_some_and(|out| Some(out) == input.identity) {
-        return Err(same_file(&name));
-    }
+    see_that_it_is_none(&name, &metadata, kept)?;
     // A file that could not be written to is not replaced either.
     OpenOptions::new()
         .write(true)
@@ -170,11 +181,13 @@ fn new(name: String, out: &OsStr) -> Result<Output, Failure> {
     }
 }
 
-fn same_file(name: &str) -> Failure {
-    Failure::at(
-        name,
-        "this is the very file that is read, which stays as it is: name another file to write",
-    )
+/// Sees that an output is none of the files that are kept.
+fn see_that_it_is_none(name: &str, out: &Metadata, kept: &Kept) -> Result<(), Failure> {
+    let out = identity(out);
+    match kept.iter().find(|(file, _)| out.is_some() && *file == out) {
+        Some((_, words)) => Err(Failure::at(name, words)),
+        None => Ok(()),
+    }
 }
 
 /// The folder that a file stands in.

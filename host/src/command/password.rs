@@ -2,7 +2,7 @@
 
 use std::env;
 use std::ffi::OsStr;
-use std::fs::File;
+use std::fs::{self, File};
 use std::io;
 use std::os::fd::AsFd;
 use std::os::unix::ffi::OsStringExt;
@@ -11,6 +11,7 @@ use sheet::Secret;
 
 use super::arguments::PasswordFrom;
 use super::failure::Failure;
+use super::input::{identity, Identity};
 use super::terminal;
 
 /// The environment variable that may hold the password.
@@ -42,12 +43,26 @@ pub fn get_new(
         let first = format!("New password for {stream}: ");
         let [password, again] = from_terminal([&first, "The same password again: "])?;
         if password.as_bytes() != again.as_bytes() {
-            return Err(Failure::usage(
-                "the two passwords are not the same, and nothing was written: start again",
+            return Err(Failure::Other(
+                "the two passwords are not the same, and nothing was written: start again".into(),
             ));
         }
         Ok(password)
     })
+}
+
+/// Which regular file the password is to come from, if it is there.
+pub fn identity_of(from: &PasswordFrom) -> Option<Identity> {
+    let PasswordFrom::File(file) = from else {
+        return None;
+    };
+    let metadata = if file == "-" {
+        let opened = io::stdin().as_fd().try_clone_to_owned().map(File::from);
+        opened.and_then(|file| file.metadata())
+    } else {
+        fs::metadata(file)
+    };
+    identity(&metadata.ok()?)
 }
 
 /// The password from the file or the environment, or else by asking.
