@@ -42,7 +42,7 @@ impl Refusal {
         self.details
     }
 
-    /// Whether another password could help: the stream and its lock are in order.
+    /// Whether the password did not pass: the stream and its lock are in order.
     pub fn is_wrong_password(&self) -> bool {
         self.number == 27
     }
@@ -163,7 +163,8 @@ impl Refusal {
             }
             31 => {
                 "XOR wants 6 bytes, Office 97 RC4 54, RC4 CryptoAPI 106 to 1,098: choose a lock that \
-                 fits, or ask whoever made the sheet for one with room for the lock that you want"
+                 fits, if one does, or ask whoever made the sheet for one with room for the lock that \
+                 you want"
             }
             32 => "choose another password, or another lock",
             _ => "look the number up in the documentation of the library that was linked",

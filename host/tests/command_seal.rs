@@ -226,18 +226,17 @@ fn seal_refuses_by_number() {
         (
             plain.clone(),
             "cryptoapi --major 5",
-            "refused, 13: the lock's version is not one that is read or sealed: 5.2; ",
+            "refused, 13: --major 5 is not sealed: choose 2, 3 or 4",
         ),
         (
             plain.clone(),
             "cryptoapi --key-size 0",
-            "refused, 23: the CryptoAPI lock's key size is not 40 to 128 bits in steps of 8, nor 0 \
-             in a book that is opened: it says 0; ",
+            "refused, 23: --key-size 0 is not sealed: choose 40 to 128 in steps of 8",
         ),
         (
             plain.clone(),
             "cryptoapi --key-size 44",
-            "refused, 23: ",
+            "refused, 23: --key-size 44 is not sealed: ",
         ),
         (
             bench.read("calibres.bin"),

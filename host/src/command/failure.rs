@@ -10,9 +10,12 @@ use sheet::Refusal;
 pub enum Failure {
     /// The library refused a stream. The words say what was not done.
     Refused(Refusal, String),
+    /// The library refused what an argument asked for, by this number. The words say which argument,
+    /// and what was not done.
+    RefusedArgument(u32, String),
     /// The listing ended at a record that can't be read.
     Unreadable(String),
-    /// The arguments, the input or the output.
+    /// The arguments, the input, the output, the password that was typed, or what the machine lacks.
     Other(String),
     /// Whoever reads what is printed has gone, as `head` does when it has enough.
     ReaderGone,
@@ -92,6 +95,7 @@ impl Failure {
     pub fn words(&self) -> String {
         match self {
             Failure::Refused(refusal, words) => format!("{refusal}\nsheet: {words}"),
+            Failure::RefusedArgument(number, words) => format!("refused, {number}: {words}"),
             Failure::Unreadable(words) | Failure::Other(words) => format!("sheet: {words}"),
             Failure::ReaderGone => String::new(),
         }
@@ -105,7 +109,9 @@ impl Failure {
             let _ = writeln!(io::stderr(), "{words}");
         }
         match self {
-            Failure::Refused(..) | Failure::Unreadable(_) => ExitCode::from(1),
+            Failure::Refused(..) | Failure::RefusedArgument(..) | Failure::Unreadable(_) => {
+                ExitCode::from(1)
+            }
             Failure::Other(_) | Failure::ReaderGone => ExitCode::from(2),
         }
     }

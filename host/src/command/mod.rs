@@ -221,9 +221,14 @@ fn seal(
 ) -> Result<(), Failure> {
     let output = Output::prepare(out, &input, password_from)?;
     let plain = &input.stream[..];
-    let refused = |refusal| {
+    let refused = |refusal: Refusal| {
         let words = format!("{} was not sealed, and nothing was written", input.name);
-        Failure::Refused(refusal, words)
+        match unfit_argument(lock, &refusal) {
+            Some(said) => {
+                Failure::RefusedArgument(refusal.number(), format!("{said}\nsheet: {words}"))
+            }
+            None => Failure::Refused(refusal, words),
+        }
     };
     let choice = fresh(lock)?;
     let mut scratch = [0; sheet::SCRATCH_LEN];
@@ -252,6 +257,20 @@ fn seal(
         let _ = writeln!(io::stderr(), "sheet: warning: {words}");
     }
     tell(&report, &output, out)
+}
+
+/// What is wrong with the argument that a sealing was refused for: 13 and 23 are of nothing else here.
+fn unfit_argument(lock: SealUnder, refusal: &Refusal) -> Option<String> {
+    match (lock, refusal.number()) {
+        (SealUnder::CryptoApi { major, .. }, 13) => Some(format!(
+            "--major {major} is not sealed: choose 2, 3 or 4, of which 4 is the usual one"
+        )),
+        (SealUnder::CryptoApi { key_size, .. }, 23) => Some(format!(
+            "--key-size {key_size} is not sealed: choose 40 to 128 in steps of 8, of which 128 is \
+             the strongest"
+        )),
+        _ => None,
+    }
 }
 
 /// A lock with a salt and a verifier of its own, where it takes them.
