@@ -216,9 +216,10 @@ uint32_t sheet_open(const uint8_t *stream, size_t stream_len, const uint8_t *pas
  *   - Who knows the verifier knows the first bytes of the keystream of block 0: 32 of them under 1.1, 36 under CryptoAPI.
  *
  * XOR, 1.1, and CryptoAPI with 40 bits do not protect a sheet from anyone who tries: under XOR the sealed stream itself
- * gives away what it was enciphered with, and a key of 40 bits is found by trying them all, whatever the password is. They
- * are for programs that read nothing else. CryptoAPI with 128 bits is the strongest of these locks, and no stronger than the
- * password, as nothing slows down guessing at it. No lock shows whether a sealed stream was changed afterwards.
+ * gives away what it was enciphered with, and a key of 40 bits is found by trying them all, whatever the password is, as
+ * are keys of up to 64 bits by whoever has many machines. They are for programs that read nothing else. CryptoAPI with 128
+ * bits is the strongest of these locks, and no stronger than the password, as nothing slows down guessing at it. No lock
+ * shows whether a sealed stream was changed afterwards.
  *
  * What is said with sheet_open of the stack, of registers and of the host's own copy of the password is true of these
  * functions too. */

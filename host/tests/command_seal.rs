@@ -38,7 +38,7 @@ const LOCKS: [(&str, usize, &str, bool); 6] = [
         "cryptoapi --key-size 48 --major 3",
         300,
         "lock\tRC4 CryptoAPI\nkey size\t48\n",
-        false,
+        true,
     ),
     (
         "cryptoapi --key-size 128 --major 4",
@@ -136,6 +136,19 @@ fn the_warnings_say_what_is_weak() {
             106,
             &["RC4 CryptoAPI with a key of 40 bits does not protect"],
         ),
+        (
+            "cryptoapi --key-size 48",
+            106,
+            &[
+                "a key of 48 bits is found by trying them all",
+                "128 bits are",
+            ],
+        ),
+        (
+            "cryptoapi --key-size 64",
+            106,
+            &["a key of 64 bits is found by trying them all"],
+        ),
     ] {
         bench.write("plain", &sheet(len));
         let ran = bench.run_with(&format!("seal plain -o sealed --lock {lock}"), "Unruh");
@@ -150,8 +163,13 @@ fn the_warnings_say_what_is_weak() {
         ran.failed(1, &["refused, 1: "]);
         assert!(!ran.err.contains("warning"));
     }
-    // An empty password is taken, where the lock takes it.
     bench.write("plain", &sheet(106));
+    let ran = bench.run_with(
+        "seal plain -o sealed --lock cryptoapi --key-size 72",
+        "Unruh",
+    );
+    assert_eq!((ran.status, &ran.err[..]), (Some(0), ""));
+    // An empty password is taken, where the lock takes it.
     let ran = bench.run_with("seal plain -o sealed --lock cryptoapi", "");
     assert_eq!(ran.status, Some(0));
     assert_eq!(ran.err.lines().count(), 1);

@@ -56,8 +56,9 @@ The length of its body decides which lock fits:
   --lock xor                 XOR, 6 bytes; its password has 1 to 15 characters,
                              none beyond U+00FF
 
-XOR and keys of 40 bits do not protect a sheet from anyone who tries, and a
-warning says so each time. The salt and the verifier of the other two locks
+XOR and keys of 40 bits do not protect a sheet from anyone who tries, nor keys
+of up to 64 bits from whoever has many machines, and a warning says so each
+time. The salt and the verifier of the other two locks
 are drawn from the system's random source (/dev/urandom), anew for each
 sealing.
 

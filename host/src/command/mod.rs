@@ -300,15 +300,22 @@ fn weaknesses(report: &Report, empty_password: bool) -> Vec<String> {
     if report.lock == Lock::Xor {
         words.push(
             "XOR does not protect a sheet from anyone who tries: the sealed stream itself gives \
-             away what it was enciphered with; RC4 CryptoAPI with 128 bits is stronger"
+             away what it was enciphered with; RC4 CryptoAPI with 128 bits is stronger, in a sheet \
+             with room for it"
                 .to_string(),
         );
     } else if report.key_bits <= 40 {
         words.push(format!(
             "{} with a key of 40 bits does not protect a sheet from anyone who tries: the key is \
              found by trying them all, whatever the password is; RC4 CryptoAPI with 128 bits is \
-             stronger",
+             stronger, in a sheet with room for it",
             report.lock
+        ));
+    } else if report.key_bits <= 64 {
+        words.push(format!(
+            "a key of {} bits is found by trying them all, whatever the password is, by whoever has \
+             many machines; 128 bits are stronger",
+            report.key_bits
         ));
     }
     if empty_password {
