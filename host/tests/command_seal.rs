@@ -334,12 +334,16 @@ fn passwords_that_xor_does_not_take() {
     ] {
         let ran = bench.run_with("seal plain -o sealed --lock xor", password);
         match sealed {
-            true => assert_eq!(ran.status, Some(0), "{password}"),
+            true => {
+                assert_eq!(ran.status, Some(0), "{password}");
+                fs::remove_file(bench.folder.join("sealed")).unwrap();
+            }
             false => ran.failed(
                 1,
                 &["refused, 32: the password is not one that XOR takes, of 1 to 15 characters"],
             ),
         }
+        bench.has_only(&["plain"]);
         assert!(password.is_empty() || !ran.err.contains(password));
     }
 }

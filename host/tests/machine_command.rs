@@ -64,7 +64,8 @@ fn a_device_is_not_written_to() {
 }
 
 /// What a user has in place of the random source, by a shell that runs as the root of a name space of
-/// its own, and what the command says of it.
+/// its own, and what the command says of it. The test needs a machine that lets users have such name
+/// spaces.
 const SOURCES: [(&str, &str); 4] = [
     (
         "mount --bind /dev/zero /dev/urandom",
@@ -97,11 +98,7 @@ fn nothing_is_sealed_without_a_random_source() {
     let seal = "seal plain -o sealed --lock cryptoapi";
     for (first, words) in SOURCES {
         let tried = run(first, "--version");
-        if tried.status != Some(0) {
-            // Not every machine lets users have name spaces.
-            println!("not tried: {}", tried.err);
-            continue;
-        }
+        assert_eq!(tried.status, Some(0), "no such device: {}", tried.err);
         let ran = run(first, seal);
         let whole = format!("the system's random source gave no salt ({words}");
         ran.failed(2, &["sheet: /dev/urandom: ", &whole, "nothing is sealed"]);
@@ -186,12 +183,14 @@ fn no_permission_is_told() {
     fs::create_dir(bench.folder.join("locked")).unwrap();
     bench.write("secret", b"");
     bench.write("kept", b"old");
+    bench.write("plain", &bench.plain());
     for (name, mode) in [
         ("secret", 0o000),
         ("kept", 0o444),
         ("locked", 0o555),
         ("sheet", 0o755),
         ("calibres.bin", 0o644),
+        ("plain", 0o644),
     ] {
         fs::set_permissions(bench.folder.join(name), fs::Permissions::from_mode(mode)).unwrap();
     }
@@ -204,6 +203,14 @@ fn no_permission_is_told() {
         (
             "open calibres.bin -o locked/plain",
             &["sheet: locked/plain: ", "no permission to write"],
+        ),
+        (
+            "seal plain -o kept --lock cryptoapi",
+            &["sheet: kept: ", "no permission to write"],
+        ),
+        (
+            "seal plain -o locked/sealed --lock cryptoapi",
+            &["sheet: locked/sealed: ", "no permission to write"],
         ),
     ] {
         let mut command = Command::new(&program);
@@ -219,18 +226,16 @@ fn no_permission_is_told() {
         if unsafe { geteuid() } == 0 {
             command.uid(65534).gid(65534);
         }
-        match Process::try_start(&mut command) {
-            Ok(process) => Ran::from(process.end()).failed(2, words),
-            // Nobody may not enter the folders above, or can't be had at all.
-            Err(error) => println!("not tried: {error}"),
-        }
+        // Nobody must be able to enter the folders above.
+        let process = Process::try_start(&mut command).expect("nobody can run the command");
+        Ran::from(process.end()).failed(2, words);
     }
     assert_eq!(bench.read("kept"), b"old");
     assert_eq!(
         fs::read_dir(bench.folder.join("locked")).unwrap().count(),
         0
     );
-    bench.has_only(&["kept", "locked", "secret", "sheet"]);
+    bench.has_only(&["kept", "locked", "plain", "secret", "sheet"]);
 }
 
 #[test]
