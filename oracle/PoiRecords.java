@@ -6,19 +6,31 @@ import org.apache.poi.hssf.record.Record;
 import org.apache.poi.hssf.record.RecordFactory;
 import org.apache.poi.hssf.record.crypto.Biff8EncryptionKey;
 
-/** Prints the records that Apache POI reads from a locked stream, each as hexadecimal digits, or that the password is refused. Arguments: stream, password. */
+/**
+ * Prints the records that Apache POI reads from locked streams, each as hexadecimal digits, or that the password is refused, or what is thrown else; and an empty
+ * line behind each stream. Arguments: stream and password, as often as wanted.
+ */
 public class PoiRecords {
     public static void main(String[] args) throws Exception {
-        Biff8EncryptionKey.setCurrentUserPassword(args[1]);
+        for (int n = 0; n + 1 < args.length; n += 2) {
+            System.out.println(lines(Files.readAllBytes(Paths.get(args[n])), args[n + 1]));
+        }
+    }
+
+    private static String lines(byte[] stream, String password) {
+        Biff8EncryptionKey.setCurrentUserPassword(password);
         try {
-            for (Record record : RecordFactory.createRecords(new ByteArrayInputStream(Files.readAllBytes(Paths.get(args[0]))))) {
-                StringBuilder line = new StringBuilder();
+            StringBuilder lines = new StringBuilder();
+            for (Record record : RecordFactory.createRecords(new ByteArrayInputStream(stream))) {
                 for (byte b : record.serialize())
-                    line.append(String.format("%02x", b));
-                System.out.println(line);
+                    lines.append(Character.forDigit(b >> 4 & 15, 16)).append(Character.forDigit(b & 15, 16));
+                lines.append('\n');
             }
+            return lines.toString();
         } catch (EncryptedDocumentException e) {
-            System.out.println("refused");
+            return "refused\n";
+        } catch (RuntimeException e) {
+            return e.getClass().getSimpleName() + "\n";
         }
     }
 }
