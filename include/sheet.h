@@ -206,20 +206,27 @@ uint32_t sheet_open(const uint8_t *stream, size_t stream_len, const uint8_t *pas
  * plain one.
  *
  * The salt and the verifier are 16 bytes each. Both must be fresh for each sealing, from a random source that nobody can
- * foretell (getentropy, /dev/urandom): never fixed, counted, or taken from another sheet. The salt stands in the sealed
- * stream as it is. The verifier is given plain, and the function enciphers it and its digest. If they are not fresh, the
- * sheet opens as before, but:
+ * foretell (getentropy, or /dev/urandom, which early in a boot may not be ready): never fixed, counted, or taken from
+ * another sheet. The salt stands in the sealed stream as it is. The verifier is given plain, and the function enciphers it
+ * and its digest. If they are not fresh, the sheet opens as before, but:
  *
  *   - The same password and salt give the same keystream (with one lock and key size). At every offset where two sheets
  *     that are sealed so are both enciphered, their exclusive-or is that of their plain streams, from which most of both can
  *     be worked out, without any password.
+ *   - With the same salt, what passwords make can be worked out beforehand, once for all sheets that have it.
  *   - Who knows the verifier knows the first bytes of the keystream of block 0: 32 of them under 1.1, 36 under CryptoAPI.
+ *     No enciphered byte lies there, so that nothing is told but whether a guessed password is right, which the lock tells
+ *     too.
  *
  * XOR, 1.1, and CryptoAPI with 40 bits do not protect a sheet from anyone who tries: under XOR the sealed stream itself
  * gives away what it was enciphered with, and a key of 40 bits is found by trying them all, whatever the password is, as
  * are keys of up to 64 bits by whoever has many machines. They are for programs that read nothing else. CryptoAPI with 128
  * bits is the strongest of these locks, and no stronger than the password, as nothing slows down guessing at it. No lock
  * shows whether a sealed stream was changed afterwards.
+ *
+ * Not every program opens every choice. LibreOffice, msoffcrypto-tool and Apache POI, in the versions that were tried, all
+ * open 1.1, and CryptoAPI of version 3.2 or 4.2 with 128 bits in a zero record of 108 bytes, with a password of 1 to 15
+ * UTF-16 units; LibreOffice does not open version 2.2, fewer bits, or other passwords. Microsoft Excel was not tried.
  *
  * What is said with sheet_open of the stack, of registers and of the host's own copy of the password is true of these
  * functions too. */
@@ -239,7 +246,8 @@ uint32_t sheet_seal_office97(const uint8_t *plain, size_t plain_len, const uint8
                              uint8_t *output, size_t output_len, uint64_t facts[8]);
 
 /* Seals under RC4 CryptoAPI, version major.2, with a key size in bits. The lock's header fills the record's body, and names
- * no provider; the document summary, outside of the stream, is said not to be enciphered.
+ * no provider. It says that the document summary, which stands outside of the stream, is not enciphered: where sheet_open
+ * told otherwise of the book (facts[3] is 1), the summary still is, under the old password, and the host has to remove it.
  *
  * Checked in this order: 1 to 7; 13, major is 2, 3 or 4 (its details are major and 2); 23, key_size is 40 to 128 in steps of
  * 8, and not 0; 30; 31, the zero record's body has 106 to 1,098 bytes. */

@@ -54,7 +54,8 @@ __attribute__((noinline)) static uint32_t call_open(uint8_t *to, size_t len, siz
     return sheet_open(stream, len, password, password_len, scratch, sizeof scratch, to, sizeof plain, facts);
 }
 
-/* Seals the plain stream into the stream's buffer, under a lock with a key size. Salt and verifier are 16 random bytes each. */
+/* Seals the plain stream into the stream's buffer, under a lock with a key size. Salt and verifier are 16 random bytes each.
+ * CryptoAPI becomes version 4.2, and says that the document summary is not enciphered. */
 __attribute__((noinline)) static uint32_t call_seal(uint64_t lock, uint64_t key_size, const uint8_t fresh[32], size_t len,
                                                     size_t password_len, uint64_t facts[8])
 {

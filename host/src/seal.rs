@@ -26,7 +26,9 @@ pub enum Choice {
         /// Fresh for each sealing, and plain.
         verifier: [u8; 16],
     },
-    /// RC4 CryptoAPI, in a zero record of 106 to 1,098 bytes.
+    /// RC4 CryptoAPI, in a zero record of 106 to 1,098 bytes. The lock says that the document
+    /// summary, outside of the stream, is not enciphered: where [`open`](crate::open()) told
+    /// otherwise of the book, the summary still is, under the old password.
     CryptoApi {
         /// Fresh for each sealing.
         salt: [u8; 16],

@@ -56,6 +56,14 @@ The length of its body decides which lock fits:
   --lock xor                 XOR, 6 bytes; its password has 1 to 15 characters,
                              none beyond U+00FF
 
+Not every program opens every choice. LibreOffice opens passwords of 1 to 15
+characters alone (one beyond U+FFFF counts as two), and of cryptoapi 128 bits
+as version 3.2 or 4.2; XOR with letters beyond ASCII only some programs open.
+
+The lock cryptoapi says that the document summary, outside of this stream, is
+not enciphered. Where open said 'summary sealed yes' of a book, its summary
+still is, under the old password: take it out of the .xls file.
+
 XOR and keys of 40 bits do not protect a sheet from anyone who tries, nor keys
 of up to 64 bits from whoever has many machines, and a warning says so each
 time. The salt and the verifier of the other two locks
@@ -99,8 +107,9 @@ EXIT STATUS
   1       open, seal, directory or forecast was refused: standard error says
           'refused, NUMBER:' and why, and OUT is not written; or list found a
           record that can't be read
-  2       the arguments, the input or the output are at fault: standard error
-          says which, and what to try
+  2       anything else: the arguments, the input, the output, what was typed
+          as a password, or no random source; standard error says which, and
+          what to try
 
 EXAMPLE
 
