@@ -1,8 +1,8 @@
 // C exports of the hashes, of RC4, of XOR obfuscation and of the walk for the benchmark in bench/.
 ghost use mathlib.Core.Path.{_≡_};
 ghost use mathlib.Core.Bool.{_&&_};
-ghost use Rattle.laws.specs.Choice.{pick};
-ghost use Rattle.rc4.specs.Rc4.{made, enciphered, encipheredHalves};
+ghost use Rattle.laws.specs.Choice.{pick, within};
+ghost use Rattle.rc4.specs.Rc4.{keyed, made, enciphered, encipheredHalves};
 ghost use Rattle.sha1.specs.Sha1.{sha1};
 ghost use Rattle.md5.specs.Md5.{md5};
 ghost use Rattle.xor_obfuscation.specs.Xor.{Transforms};
@@ -43,20 +43,13 @@ pub extern "C" fn bench_rc4(key: &[u8], src: &[u8], dst: &mut [u8]) -> bool
     true
 }
 
-// The halves of src under the keystreams of two keys, into dst; false for a key of no such length, whose
-// keystream is then that of the unmixed table.
+// The halves of src under the keystreams of two keys, into dst; false for a key of no such length.
 #[no_mangle]
 pub extern "C" fn bench_rc4_halves(key: &[u8], other: &[u8], src: &[u8], dst: &mut [u8]) -> bool
-    ensures { λ r. ⌜ r ≡ made (now (key .entry)) .ok && made (now (other .entry)) .ok ⌝ }
-    ensures { λ r. ⌜ now (dst .exit) ≡ encipheredHalves (made (now (key .entry)) .keystream) (made (now (other .entry)) .keystream) (now (src .entry)) (now (dst .entry)) ⌝ }
+    ensures { λ r. ⌜ r ≡ within 5 16 (length (now (key .entry))) && within 5 16 (length (now (other .entry))) ⌝ }
+    ensures { λ r. ⌜ now (dst .exit) ≡ pick r (encipheredHalves (keyed (now (key .entry))) (keyed (now (other .entry))) (now (src .entry)) (now (dst .entry))) (now (dst .entry)) ⌝ }
 {
-    let pair = rc4::new_pair(key, other);
-    let first = pair.first;
-    let second = pair.second;
-    let a = first.keystream;
-    let b = second.keystream;
-    rc4::apply_halves(a, b, src, dst);
-    first.ok & second.ok
+    rc4::apply_halves(key, other, src, dst)
 }
 
 // The bytes of src, deciphered from an index of the array on, into dst.

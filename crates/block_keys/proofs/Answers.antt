@@ -10,9 +10,9 @@ use lib.Bits.{bitXor}
 use lib.Dec.{eqb}
 use lib.ListN.{length, getD, take, drop, replicate, length-append}
 use lib.Seq.{take-append-le, take-all, length-take-le}
-use Rattle.laws.specs.Choice.{pick}
+use Rattle.laws.specs.Choice.{pick, within}
 use Rattle.laws.specs.Offsets.{tabulate}
-use Rattle.laws.proofs.Choice.{taken, left, skip, stop}
+use Rattle.laws.proofs.Choice.{taken, left, skip, stop, within-yes}
 use Rattle.laws.proofs.Offsets.{getD-tabulate}
 use Rattle.sensitive.specs.declared.DerivedKey.{DerivedKey}
 use Rattle.sensitive.specs.Derived.{derived}
@@ -20,7 +20,7 @@ use Rattle.sha1.specs.Sha1.{sha1}
 use Rattle.md5.specs.Md5.{md5}
 use Rattle.rc4.specs.declared.Keystream.{Keystream}
 use Rattle.rc4.specs.declared.Made.{Made}
-use Rattle.rc4.specs.Rc4.{keyed, made, after, byteFrom, keystreamByte, Applies}
+use Rattle.rc4.specs.Rc4.{keyed, made, after, byteFrom, keystreamByte, Applies, encipheredHalves}
 use Rattle.rc4.proofs.Table.{made-keyed, after-none, byte-resumed}
 use Rattle.password_digest.specs.Digest.{sha1Of, md5Of, fits, Digests}
 use Rattle.rc4_office97.specs.Keys as office97
@@ -91,10 +91,28 @@ module _ (s : Schedule) (block : ℕ) (d : DerivedKey) (e : d ≡ derived (block
   pub handed-count : d .len ≡ length (take (d .len) (d .bytes))
   handed-count = sym (length-take-le (d .len) (d .bytes) handed-room)
 
+  pub handed-key : take (d .len) (d .bytes) ≡ blockKey s block
+  handed-key = ap (λ (k : DerivedKey). take (k .len) (k .bytes)) e ∙ key-bytes (blockKey s block)
+
+  pub handed-fits : within 5 16 (length (take (d .len) (d .bytes))) ≡ true
+  handed-fits = rw handed-key (within-yes 5 16 (length (blockKey s block)) (key-length s block .0) (key-length s block .1))
+
   pub handed-stream : (m : Made) → m ≡ made (take (d .len) (d .bytes)) → m .keystream ≡ keyed (blockKey s block)
   handed-stream m g =
-      ap (λ (n : Made). n .keystream) (g ∙ ap made (ap (λ (k : DerivedKey). take (k .len) (k .bytes)) e ∙ key-bytes (blockKey s block)))
+      ap (λ (n : Made). n .keystream) (g ∙ ap made handed-key)
       ∙ key-stream (blockKey s block) (key-length s block .0) (key-length s block .1)
+
+-- two keys that are handed over fit, so the halves are enciphered under them
+pub halves-handed : (s : Schedule) (block other : ℕ) (a b : DerivedKey) → a ≡ derived (blockKey s block) → b ≡ derived (blockKey s other)
+    → (ok : Bool) (m d d′ : List ℕ) → ok ≡ within 5 16 (length (take (a .len) (a .bytes))) && within 5 16 (length (take (b .len) (b .bytes)))
+    → d′ ≡ pick ok (encipheredHalves (keyed (take (a .len) (a .bytes))) (keyed (take (b .len) (b .bytes))) m d) d
+    → d′ ≡ encipheredHalves (keyed (blockKey s block)) (keyed (blockKey s other)) m d
+halves-handed s block other a b ea eb ok m d d′ told e =
+    let fitting : ok ≡ true = told ∙ rw (handed-fits s block a ea, handed-fits s other b eb) refl in
+    e
+    ∙ taken _ _ fitting
+    ∙ ap (λ (k : List ℕ). encipheredHalves (keyed k) (keyed (take (b .len) (b .bytes))) m d) (handed-key s block a ea)
+    ∙ ap (λ (k : List ℕ). encipheredHalves (keyed (blockKey s block)) (keyed k) m d) (handed-key s other b eb)
 
 -- lists given by offsets that agree
 tabulate-same : (f g : ℕ → ℕ) (n : ℕ) → ((i : ℕ) → f i ≡ g i) → tabulate f n ≡ tabulate g n

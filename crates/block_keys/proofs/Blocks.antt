@@ -20,7 +20,7 @@ use Rattle.laws.proofs.Choice.{taken, left, either, stop, skip}
 use Rattle.laws.proofs.Written.{Written, written-join, written-all}
 use Rattle.word.specs.Word.{le-bytes}
 use Rattle.rc4.specs.declared.Keystream.{Keystream}
-use Rattle.rc4.specs.Rc4.{keyed, keystreamByte, byteFrom, Applies, AppliesHalves, half, appliedHalves}
+use Rattle.rc4.specs.Rc4.{keyed, keystreamByte, byteFrom, Applies, half, encipheredHalves}
 use Rattle.rc4_office97.specs.Keys as office97
 use Rattle.rc4_cryptoapi.specs.Keys as cryptoapi
 use Rattle.block_keys.specs.declared.Kind.{Kind}
@@ -78,9 +78,8 @@ module _ (k k′ : Keystream) (key s d ys : List ℕ) (at end : ℕ) (e : k ≡ 
       least n = omega arith
 
 -- two blocks side by side
-module _ (j k : Keystream) (key key′ s d ys : List ℕ) (at size : ℕ) (ej : j ≡ keyed key) (ek : k ≡ keyed key′) (hs : at + (size + size) ≤ length s)
-    (hd : at + (size + size) ≤ length d)
-    (a : AppliesHalves j k (take (at + (size + size) - at) (drop at s)) (take (at + (size + size) - at) (drop at d)) ys) where
+module _ (key key′ s d ys : List ℕ) (at size : ℕ) (hs : at + (size + size) ≤ length s) (hd : at + (size + size) ≤ length d)
+    (a : ys ≡ encipheredHalves (keyed key) (keyed key′) (take (at + (size + size) - at) (drop at s)) (take (at + (size + size) - at) (drop at d))) where
   pub two-blocks : Written (λ (o : ℕ). pick (ltb (o - at) size) (bitXor (getD s o 0) (keystreamByte key (o - at)))
       (bitXor (getD s o 0) (keystreamByte key′ (o - at - size)))) at (at + (size + size)) d
       (take at d ++ (ys ++ drop (at + (size + size) - at) (drop at d)))
@@ -90,7 +89,7 @@ module _ (j k : Keystream) (key key′ s d ys : List ℕ) (at size : ℕ) (ej : 
       rw (part-size s at (size + size) hs, part-size d at (size + size) hd) (halved size) in
       rw w
       (lent-part (λ (i x : ℕ). pick (ltb i size) (bitXor x (keystreamByte key i)) (bitXor x (keystreamByte key′ (i - size)))) s d ys at (size + size) hs hd
-      (rw (h, ej, ek) at (rw w at (a .bytes))))
+      (rw h at (rw w at a)))
     where
       halved : (n : ℕ) → min (n + n) (n + n) / 2 ≡ n
       halved n = omega arith

@@ -373,17 +373,11 @@ fn keystream_of(schedule: Schedule, block: usize) -> rc4::Keystream
     keystream(schedule, (block % 0x1_0000_0000) as u32)
 }
 
-// The keystreams of two blocks by their numbers, made side by side.
-fn keystreams_of(schedule: Schedule, block: usize, other: usize) -> rc4::Pair
-    ensures { λ r. ⌜ (r .first .keystream ≡ keyed (blockKey schedule block)) × (r .second .keystream ≡ keyed (blockKey schedule other)) ⌝ }
+// The key of a block by its number, of which the key takes 32 bits.
+fn key_of(schedule: Schedule, block: usize) -> sensitive::DerivedKey
+    ensures { λ r. ⌜ r ≡ derived (blockKey schedule block) ⌝ }
 {
-    let a = block_key(schedule, (block % 0x1_0000_0000) as u32);
-    let b = block_key(schedule, (other % 0x1_0000_0000) as u32);
-    let key = a.bytes;
-    let key_len = a.len;
-    let other_key = b.bytes;
-    let other_len = b.len;
-    rc4::new_pair(&key[..key_len], &other_key[..other_len])
+    block_key(schedule, (block % 0x1_0000_0000) as u32)
 }
 
 // Deciphers a block, or what there is of it, from its first byte on.
@@ -414,13 +408,19 @@ fn decrypt_pair(
     requires { ⌜ (block < 2 ^ 63) × (size < 2 ^ 62) × (at + (size + size) ≤ length (now src)) × (at + (size + size) ≤ length (now dst)) ⌝ }
     ensures { λ _. ⌜ Written (λ (o : ℕ). pick (ltb (o - at) size) (bitXor (getD (now (src .entry)) o 0) (keystreamByte (blockKey schedule block) (o - at))) (bitXor (getD (now (src .entry)) o 0) (keystreamByte (blockKey schedule (block + 1)) (o - at - size)))) at (at + (size + size)) (now (dst .entry)) (now (dst .exit)) ⌝ }
 {
-    let pair = keystreams_of(schedule, block, block + 1);
-    let made = pair.first;
-    let first = made.keystream;
-    let next = pair.second;
-    let second = next.keystream;
+    let first = key_of(schedule, block);
+    let second = key_of(schedule, block + 1);
+    let key = first.bytes;
+    let key_len = first.len;
+    let other = second.bytes;
+    let other_len = second.len;
     let end = at + (size + size);
-    rc4::apply_halves(first, second, &src[at..end], &mut dst[at..end]);
+    rc4::apply_halves(
+        &key[..key_len],
+        &other[..other_len],
+        &src[at..end],
+        &mut dst[at..end],
+    );
 }
 
 // Deciphers as many pairs of whole blocks as the first n bytes have, and tells how many blocks that were.

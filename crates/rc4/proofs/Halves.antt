@@ -1,44 +1,23 @@
--- Two keystreams side by side: one turn of each, and an output whose two halves are written from their starts on.
+-- Two keystreams side by side: an output whose two halves are written from their starts on.
 -- What lies between the two parts is never asked for: at the end there is nothing there.
 -- Assumes nothing.
-use mathlib.Core.Path.{_≡_, refl, sym, _∙_}
+use mathlib.Core.Path.{_≡_, refl, sym, ap, _∙_}
+use mathlib.Core.Bool.{Bool, true, false}
 use mathlib.Core.List.{List}
-use Prim.Native.Nat.{ℕ, _+_, _-_, _%_, _≤_, _<_}
-use native.Mathlib.Nat.{add-zero, mod-lt, mod-eq-of-lt, not-suc-le-zero}
+use Prim.Native.Nat.{ℕ, _+_, _-_, _≤_, _<_}
+use native.Mathlib.Nat.{not-suc-le-zero}
 use native.Mathlib.Omega.{arith}
 use lib.Bits.{bitXor}
-use lib.Dec.{lit<}
+use lib.Dec.{ltb}
 use lib.ListN.{length, getD, set, length-set}
 use lib.Seq.{getD-set-same, getD-set-other}
 use borrow.Author.Tests.{lt-ltb, le-ltb}
-use Rattle.laws.proofs.Choice.{taken, left, either}
+use Rattle.laws.specs.Choice.{pick}
+use Rattle.laws.proofs.Choice.{stop, skip, either}
 use Rattle.laws.proofs.Written.{Written, written-all}
 use Rattle.rc4.specs.declared.Keystream.{Keystream}
-use Rattle.rc4.specs.Rc4.{after, byteFrom, applied, half, appliedHalves, AppliesHalves}
-use Rattle.rc4.proofs.Table.{after-more, byte-more}
-
--- a keystream before its first turn
-pub turn-none : (t : List ℕ) (i j : ℕ) → i < 256 → record { table = t; i = (i + 0) % 256; j = j } ≡ after (record { table = t; i = i; j = j }) 0
-unfolding after
-turn-none t i j h = rw (add-zero i, mod-eq-of-lt h)
-
--- one turn of a keystream that started at the index i: m and j′ are the two indices of the turn
-module _ (k : Keystream) (t : List ℕ) (i j n m j′ : ℕ) (e : record { table = t; i = (i + n) % 256; j = j } ≡ after k n) (gm : m ≡ (i + 1 + n) % 256)
-    (gj : j′ ≡ (j + getD t m 0) % 256) where
-  next-index : m ≡ ((i + n) % 256 + 1) % 256
-  next-index = omega arith
-
-  pub turn-state : record { table = set (set t m (getD t j′ 0)) j′ (getD t m 0); i = (i + (n + 1)) % 256; j = j′ } ≡ after k (n + 1)
-  turn-state =
-      let q : (i + (n + 1)) % 256 ≡ m = omega arith in
-      rw q (after-more k t ((i + n) % 256) j n m j′ e next-index gj)
-
-  pub turn-byte : (z : ℕ) → length t ≡ 256 → z ≡ (getD t m 0 + getD t j′ 0) % 256
-      → getD (set (set t m (getD t j′ 0)) j′ (getD t m 0)) z 0 ≡ byteFrom k n
-  turn-byte z h g =
-      let hm : m < length t = rw (h, gm) (mod-lt _ (lit< tt)) in
-      let hj : j′ < length t = rw (h, gj) (mod-lt _ (lit< tt)) in
-      rw g (byte-more k t ((i + n) % 256) j n m j′ e next-index gj hm hj)
+use Rattle.rc4.specs.Rc4.{mixing, keyed, byteFrom, applied, half, appliedHalves, encipheredHalves, AppliesHalves}
+use Rattle.rc4.specs.Steps.{givenHalves}
 
 -- an output of which k bytes of each half are written, the halves being h long: they hold f at their offsets, and nothing behind them is changed
 pub record Sides (f : ℕ → ℕ) (h k : ℕ) (d d′ : List ℕ) : Type 0 where
@@ -82,18 +61,47 @@ sides-all f h d d′ w =
       after = λ n g. w .behind n g;
     }
 
--- the bytes of the two halves
-pub first-half : (a b : Keystream) (h : ℕ) (s : List ℕ) (k x : ℕ) → k < h → x ≡ byteFrom a k → bitXor (getD s k 0) x ≡ appliedHalves a b h s k
-first-half a b h s k x lt e = rw e (sym (taken (applied a s k) (bitXor (getD s k 0) (byteFrom b (k - h))) (lt-ltb k h lt)))
+-- the keystreams' bytes of the two halves
+pub first-half : (a b : Keystream) (h k x : ℕ) → k < h → x ≡ byteFrom a k → x ≡ givenHalves a b h k
+first-half a b h k x lt e = e ∙ stop _ (lt-ltb k h lt)
 
-pub second-half : (a b : Keystream) (h : ℕ) (s : List ℕ) (k x : ℕ) → x ≡ byteFrom b k → bitXor (getD s (k + h) 0) x ≡ appliedHalves a b h s (k + h)
-second-half a b h s k x e =
+pub second-half : (a b : Keystream) (h k x : ℕ) → x ≡ byteFrom b k → x ≡ givenHalves a b h (k + h)
+second-half a b h k x e =
     let q : k + h - h ≡ k = omega arith in
-    rw e (sym (left (applied a s (k + h)) (bitXor (getD s (k + h) 0) (byteFrom b (k + h - h))) (le-ltb (k + h) h (omega arith)) ∙ rw q refl))
+    e ∙ skip _ (le-ltb (k + h) h (omega arith)) (rw q refl)
 
--- what the loop over the halves leaves
-pub applies-halves : (a a₀ b b₀ : Keystream) (s d d′ : List ℕ) (h k : ℕ) → a₀ ≡ a → b₀ ≡ b → h ≡ half s d → k ≡ h → Sides (appliedHalves a₀ b₀ h s) h k d d′
-    → AppliesHalves a b s d d′
-applies-halves a a₀ b b₀ s d d′ h k ea eb eh ek w =
+-- a byte, exclusive-or the one that was picked
+combined : (a b : Keystream) (h : ℕ) (s : List ℕ) (n : ℕ) → bitXor (getD s n 0) (givenHalves a b h n) ≡ appliedHalves a b h s n
+unfolding pick
+combined a b h s n = by (ltb n h)
+  where
+    by : (t : Bool) → bitXor (getD s n 0) (pick t (byteFrom a n) (byteFrom b (n - h))) ≡ pick t (applied a s n) (bitXor (getD s n 0) (byteFrom b (n - h)))
+    by true = refl
+    by false = refl
+
+-- the keystreams' bytes, and then exclusive-or those of s
+pub applies-halves : (a b : Keystream) (s d d₁ d₂ : List ℕ) (h : ℕ) → h ≡ half s d → Written (givenHalves a b h) 0 (h + h) d d₁
+    → Written (λ (o : ℕ). bitXor (getD s o 0) (getD d₁ o 0)) 0 (h + h) d₁ d₂ → AppliesHalves a b s d d₂
+applies-halves a b s d d₁ d₂ h eh v w =
     let fits : h + h ≤ length d = omega arith in
-    record { bytes = written-all (appliedHalves a₀ b₀ h s) (h + h) d d′ fits (sides-all (appliedHalves a₀ b₀ h s) h d d′ (rw ek at w)) ∙ rw (ea, eb, eh) refl }
+    let both : Written (appliedHalves a b h s) 0 (h + h) d d₂ =
+    record {
+      same = w .same ∙ v .same;
+      before = λ n g. absurd (not-suc-le-zero g);
+      inside = λ n g l. w .inside n g l ∙ ap (bitXor (getD s n 0)) (v .inside n g l) ∙ combined a b h s n;
+      after = λ n g. w .after n g ∙ v .after n g;
+    } in
+    record { bytes = written-all (appliedHalves a b h s) (h + h) d d₂ fits both ∙ rw eh refl }
+
+-- the tables are those of two keys
+table-keyed : (key t : List ℕ) → t ≡ mixing key 256 .table → record { table = t; i = 0; j = 0 } ≡ keyed key
+unfolding keyed
+table-keyed key t e = ap (λ (l : List ℕ). record { table = l; i = 0; j = 0 }) e
+
+pub halves-keyed : (key other t u s d d′ : List ℕ) → t ≡ mixing key 256 .table → u ≡ mixing other 256 .table
+    → AppliesHalves (record { table = t; i = 0; j = 0 }) (record { table = u; i = 0; j = 0 }) s d d′ → d′ ≡ encipheredHalves (keyed key) (keyed other) s d
+halves-keyed key other t u s d d′ et eu a =
+    let b : Keystream = record { table = u; i = 0; j = 0 } in
+    a .bytes
+    ∙ ap (λ (k : Keystream). encipheredHalves k b s d) (table-keyed key t et)
+    ∙ ap (λ (k : Keystream). encipheredHalves (keyed key) k s d) (table-keyed other u eu)

@@ -7,7 +7,7 @@ use Prim.Native.Nat.{ℕ, zero, suc, _+_, _%_, _≤_, _<_}
 use native.Mathlib.Nat.{not-suc-le-zero, le-of-suc-le-suc, zero-add, add-assoc, mod-lt}
 use native.Mathlib.Omega.{arith}
 use lib.Dec.{eqb, ltb, lit<}
-use lib.ListN.{length, getD, set, length-set}
+use lib.ListN.{length, getD, set, length-set, List·getD-eq-default}
 use lib.Seq.{getD-set-same, getD-set-other}
 use borrow.Author.Tests.{lt-ltb, le-ltb, eq-eqb, ne-eqb}
 use Rattle.laws.specs.Choice.{pick}
@@ -49,6 +49,32 @@ pub swap-rearranged : (t : List ℕ) (i j : ℕ) → i < 256 → j < 256 → Rea
 unfolding Rearranged
 swap-rearranged t i j hi hj r =
     (length-swap t i j ∙ r .0, λ v. count-swap v t i j (rw (r .0) hi) (rw (r .0) hj) ∙ r .1 v)
+
+-- every entry of a rearrangement is below 256, since no other value stands in it
+count-entry : (t : List ℕ) (i : ℕ) → i < length t → 1 ≤ count (getD t i 0) t
+unfolding count
+count-entry [] i h = absurd (not-suc-le-zero h)
+count-entry (y ∷ t) zero h = rw (taken {X = ℕ} 1 0 (eq-eqb y y refl)) (omega arith)
+count-entry (y ∷ t) (suc i) h = let k = count-entry t i (le-of-suc-le-suc h) in omega arith
+
+pub rearranged-length : (t : List ℕ) → Rearranged t → length t ≡ 256
+unfolding Rearranged
+rearranged-length t r = r .0
+
+pub rearranged-small : (t : List ℕ) (i : ℕ) → Rearranged t → getD t i 0 < 256
+unfolding Rearranged
+rearranged-small t i r =
+    either (length t) i
+    (λ h. rw (List·getD-eq-default t 0 h) (omega arith))
+    (λ h. either 256 (getD t i 0)
+    (λ k.
+    let none : count (getD t i 0) t ≡ 0 = r .1 (getD t i 0) ∙ left {X = ℕ} 1 0 (le-ltb (getD t i 0) 256 k) in
+    let one = count-entry t i h in
+    absurd (no (count (getD t i 0) t) none one))
+    (λ k. k))
+  where
+    no : (n : ℕ) → n ≡ 0 → 1 ≤ n → ⊥
+    no n e h = omega arith
 
 -- 0 to n - 1 has each value below n once
 count-append : (v : ℕ) (s t : List ℕ) → count v (s ++ t) ≡ count v s + count v t

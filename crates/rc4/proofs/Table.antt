@@ -8,6 +8,8 @@ use Prim.Native.Nat.{ℕ, zero, suc, _+_, _%_, _≤_, _<_, min}
 use native.Mathlib.Nat.{add-comm, add-zero, add-suc, mod-eq-of-lt}
 use native.Mathlib.Numerals.{add-one}
 use native.Mathlib.Omega.{arith}
+use borrow.Author.Tests.{eq-eqb, ne-eqb}
+use lib.Dec.{eqb}
 use lib.ListN.{length, getD, set, length-set}
 use lib.Seq.{getD-set-same, getD-set-other}
 use Rattle.laws.specs.Choice.{pick, within}
@@ -35,6 +37,22 @@ module _ (t : List ℕ) (i j : ℕ) (hi : i < length t) (hj : j < length t) wher
 
   swap-sum : getD (swap t i j) i 0 + getD (swap t i j) j 0 ≡ getD t i 0 + getD t j 0
   swap-sum = rw (at-i, at-j) (add-comm (getD t j 0) (getD t i 0))
+
+-- the early load: the entry at another index than i after the swap is entry i where that index is j, and else what stood there before
+pub entry-after : (t : List ℕ) (i j m : ℕ) → j < length t → (m ≡ i → ⊥) → getD (swap t i j) m 0 ≡ pick (eqb m j) (getD t i 0) (getD t m 0)
+unfolding swap
+entry-after t i j m hj other =
+    let a = getD t i 0 in
+    let half-done = set t i (getD t j 0) in
+    same-or m j
+    (λ e. ap (λ (n : ℕ). getD (swap t i j) n 0) e ∙ getD-set-same half-done j a 0 (rw length-set hj) ∙ stop _ (eq-eqb m j e))
+    (λ e. skip _ (ne-eqb m j e) (getD-set-other half-done j m a 0 e ∙ getD-set-other t i m (getD t j 0) 0 other))
+
+-- the same as the code has it: a is entry i, and x was picked
+pub loaded-early : (t : List ℕ) (i j m a x : ℕ) → a ≡ getD t i 0 → j < length t → (m ≡ i → ⊥) → x ≡ pick (eqb m j) a (getD t m 0)
+    → x ≡ getD (set (set t i (getD t j 0)) j a) m 0
+unfolding swap
+loaded-early t i j m a x ea hj other ex = ex ∙ rw ea (sym (entry-after t i j m hj other))
 
 -- the key mixing
 pub mixing-none : (key : List ℕ) → record { table = identity; j = 0 } ≡ mixing key 0

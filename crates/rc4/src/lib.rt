@@ -1,12 +1,16 @@
 // The RC4 keystream: from the Rust source's rc4.rs, its `Keystream`. The source takes the cipher from a
 // library; this is written from document 01 and held against RFC 6229.
 ghost use mathlib.Core.Path.{_≡_};
-ghost use Prim.Native.Nat.{_+_, _<_, min};
-ghost use lib.ListN.{length};
-ghost use Rattle.laws.specs.Choice.{within};
-ghost use Rattle.rc4.specs.Rc4.{identity, mixing, made, Applies, AppliesHalves};
+ghost use mathlib.Core.Bool.{_&&_};
+ghost use Prim.Native.Nat.{ℕ, _+_, _%_, _^_, _≤_, _<_, min};
+ghost use lib.Bits.{bitXor};
+ghost use lib.Dec.{eqb};
+ghost use lib.ListN.{length, getD};
+ghost use Rattle.laws.specs.Choice.{pick, within};
+ghost use Rattle.laws.proofs.Written.{Written};
+ghost use Rattle.rc4.specs.Rc4.{identity, mixing, keyed, made, Applies, AppliesHalves, encipheredHalves, Rearranged};
 ghost use Rattle.rc4.specs.KeyIndex.{followingIndex};
-ghost use Rattle.rc4.specs.Steps.{MixedTo};
+ghost use Rattle.rc4.specs.Steps.{MixedTo, StepsTo, givenHalves};
 
 // A keystream under one key: the table, and the two indices into it.
 pub struct Keystream {
@@ -21,26 +25,29 @@ pub struct Made {
     pub keystream: Keystream,
 }
 
-// What came of making two keystreams.
-pub struct Pair {
-    pub first: Made,
-    pub second: Made,
-}
-
-// The indices of a key's mixing: j, and the carried index of the key byte that is next.
-struct Indices {
+// What a step of the key mixing carries to the next one: j, the index of the key byte that is next, and the entry at
+// the next i.
+struct Mixed {
     j: usize,
     index: usize,
+    entry: u32,
 }
 
-// Two tables.
-struct Tables {
-    first: [u8; 256],
-    second: [u8; 256],
+// What a step of the keystream leaves: j, the entry at the next i, and the byte that the step gives.
+struct Stepped {
+    j: usize,
+    entry: u32,
+    byte: u8,
 }
 
 fn wide(x: u8) -> usize
     ensures { λ r. ⌜ (r ≡ x) × (r < 256) ⌝ }
+{
+    x as usize
+}
+
+fn wide_entry(x: u32) -> usize
+    ensures { λ r. ⌜ (r ≡ x) × (r < 2 ^ 32) ⌝ }
 {
     x as usize
 }
@@ -51,17 +58,23 @@ fn least(a: usize, b: usize) -> usize
     if a < b { a } else { b }
 }
 
-// The table before the key is mixed in.
-fn unmixed() -> [u8; 256]
-    ensures { λ r. ⌜ r ≡ identity ⌝ }
+// Fills a table with its entries before a key is mixed in.
+fn unmixed(t: &mut [u32])
+    requires { ⌜ length (now t) ≡ 256 ⌝ }
+    ensures { λ _. ⌜ now (t .exit) ≡ identity ⌝ }
 {
-    let mut t = [0u8; 256];
     let mut i = 0;
     while i < 256 {
-        t[i] = (i % 256) as u8;
+        t[i] = (i % 256) as u32;
         i += 1;
     }
-    t
+}
+
+// The entry at an index after a swap, of which one store went to j: what was loaded there before, unless it is j.
+fn after_swap(index: usize, j: usize, stored: u32, loaded: u32) -> u32
+    ensures { λ r. ⌜ r ≡ pick (eqb index j) stored loaded ⌝ }
+{
+    if index == j { stored } else { loaded }
 }
 
 // The index that follows an index of a key: one more, and 0 at the key's end.
@@ -72,60 +85,78 @@ fn following_index(index: usize, len: usize) -> usize
     if index == len - 1 { 0 } else { index + 1 }
 }
 
-// A step of the key mixing: j gains entry i and the key byte at the carried index, and the entries i and j
-// swap.
-fn mix(t: &mut [u8], key: &[u8], i: usize, at: Indices) -> Indices
+// A step of the key mixing: j gains entry i and the key byte at the carried index, and the entries i and j swap. The
+// entry at the next i is loaded ahead of the two stores, so that it need not wait for them.
+fn mix(t: &mut [u32], key: &[u8], i: usize, at: Mixed) -> Mixed
     requires { ⌜ (i < 256) × MixedTo (now key) i at (now t) ⌝ }
     ensures { λ r. ⌜ MixedTo (now (key .entry)) (i + 1) r (now (t .exit)) ⌝ }
 {
     let index = at.index;
-    let a = t[i];
-    let j = (at.j + wide(a) + wide(key[index])) % 256;
+    let a = at.entry;
+    let next = (i + 1) % 256;
+    let j = (at.j + wide_entry(a) + wide(key[index])) % 256;
+    let loaded = t[next];
     t[i] = t[j];
     t[j] = a;
-    Indices {
+    Mixed {
         j,
         index: following_index(index, key.len()),
+        entry: after_swap(next, j, a, loaded),
     }
 }
 
-// The table with the key mixed in. Four steps in each turn of the loop run faster than one.
-fn mixed(key: &[u8]) -> [u8; 256]
-    requires { ⌜ 0 < length (now key) ⌝ }
-    ensures { λ r. ⌜ r ≡ mixing (now (key .entry)) 256 .table ⌝ }
+// Mixes a key into a table.
+fn mix_one(t: &mut [u32], key: &[u8])
+    requires { ⌜ (now t ≡ identity) × (0 < length (now key)) ⌝ }
+    ensures { λ _. ⌜ now (t .exit) ≡ mixing (now (key .entry)) 256 .table ⌝ }
 {
-    let mut t = unmixed();
     let mut i = 0;
-    let mut at = Indices { j: 0, index: 0 };
+    let mut at = Mixed {
+        j: 0,
+        index: 0,
+        entry: 0,
+    };
     while i < 256 {
-        at = mix(&mut t, key, i, at);
-        at = mix(&mut t, key, i + 1, at);
-        at = mix(&mut t, key, i + 2, at);
-        at = mix(&mut t, key, i + 3, at);
-        i += 4;
-    }
-    t
-}
-
-// The tables with one of two keys mixed into each. The two run side by side.
-fn mixed_both(key: &[u8], other: &[u8]) -> Tables
-    requires { ⌜ (0 < length (now key)) × (0 < length (now other)) ⌝ }
-    ensures { λ r. ⌜ (r .first ≡ mixing (now (key .entry)) 256 .table) × (r .second ≡ mixing (now (other .entry)) 256 .table) ⌝ }
-{
-    let mut s = unmixed();
-    let mut t = unmixed();
-    let mut i = 0;
-    let mut first = Indices { j: 0, index: 0 };
-    let mut second = Indices { j: 0, index: 0 };
-    while i < 256 {
-        first = mix(&mut s, key, i, first);
-        second = mix(&mut t, other, i, second);
+        at = mix(t, key, i, at);
         i += 1;
     }
-    Tables {
-        first: s,
-        second: t,
+}
+
+// Mixes one of two keys into each of two tables. The two run side by side.
+fn mix_both(s: &mut [u32], t: &mut [u32], key: &[u8], other: &[u8])
+    requires { ⌜ (now s ≡ identity) × (now t ≡ identity) × (0 < length (now key)) × (0 < length (now other)) ⌝ }
+    ensures { λ _. ⌜ (now (s .exit) ≡ mixing (now (key .entry)) 256 .table) × (now (t .exit) ≡ mixing (now (other .entry)) 256 .table) ⌝ }
+{
+    let mut i = 0;
+    let mut first = Mixed {
+        j: 0,
+        index: 0,
+        entry: 0,
+    };
+    let mut second = Mixed {
+        j: 0,
+        index: 0,
+        entry: 0,
+    };
+    while i < 256 {
+        first = mix(s, key, i, first);
+        second = mix(t, other, i, second);
+        i += 1;
     }
+}
+
+// The entries of a table as bytes.
+fn narrowed(t: &[u32]) -> [u8; 256]
+    requires { ⌜ Rearranged (now t) ⌝ }
+    ensures { λ r. ⌜ r ≡ now (t .entry) ⌝ }
+{
+    let mut bytes = [0u8; 256];
+    let mut i = 0;
+    while i < 256 {
+        bytes[i] = (t[i] % 256) as u8;
+        i += 1;
+    }
+    bytes
 }
 
 // Whether a keystream is made from keys of a length.
@@ -139,10 +170,13 @@ fn fits(len: usize) -> bool
 fn table_of(key: &[u8]) -> [u8; 256]
     ensures { λ r. ⌜ r ≡ made (now (key .entry)) .keystream .table ⌝ }
 {
+    let mut t = [0u32; 256];
+    unmixed(&mut t);
     if fits(key.len()) {
-        return mixed(key);
+        mix_one(&mut t, key);
+        return narrowed(&t);
     }
-    unmixed()
+    narrowed(&t)
 }
 
 // The answer with a keystream that starts with a table, both indices at 0.
@@ -197,55 +231,97 @@ impl Keystream {
     }
 }
 
-// The keystreams of two keys of 5 to 16 bytes, from their first bytes on.
-pub fn new_pair(key: &[u8], other: &[u8]) -> Pair
-    ensures { λ r. ⌜ (r .first ≡ made (now (key .entry))) × (r .second ≡ made (now (other .entry))) ⌝ }
+// A step of a keystream: j gains entry i, the entries i and j swap, and the entry at the sum of the two is the byte.
+// The entry at the next i is loaded ahead of the two stores, so that it need not wait for them.
+fn step(t: &mut [u32], i: usize, next: usize, at: Stepped) -> Stepped
+    requires { ⌜ (length (now t) ≡ 256) × (i < 256) × (next ≡ (i + 1) % 256) × (at .j < 256) × (at .entry ≡ getD (now t) i 0) ⌝ }
+    ensures { λ r. ⌜ StepsTo (now (t .entry)) i next at r (now (t .exit)) ⌝ }
 {
-    if fits(key.len()) {
-        if fits(other.len()) {
-            let tables = mixed_both(key, other);
-            let a = tables.first;
-            let b = tables.second;
-            let first = started(true, a);
-            let second = started(true, b);
-            return Pair { first, second };
-        }
+    let a = at.entry;
+    let j = (at.j + wide_entry(a)) % 256;
+    let loaded = t[next];
+    let b = t[j];
+    t[i] = b;
+    t[j] = a;
+    let sum = (wide_entry(a) + wide_entry(b)) % 256;
+    let byte = (t[sum] % 256) as u8;
+    Stepped {
+        j,
+        entry: after_swap(next, j, a, loaded),
+        byte,
     }
-    let first = started(fits(key.len()), table_of(key));
-    let second = started(fits(other.len()), table_of(other));
-    Pair { first, second }
 }
 
-// The first half of src under one keystream and the second half under another, into dst: as many bytes
-// as both have room for, less one if that is odd. The two run side by side.
-pub fn apply_halves(a: Keystream, b: Keystream, src: &[u8], dst: &mut [u8])
-    ensures { λ _. ⌜ AppliesHalves a b (now (src .entry)) (now (dst .entry)) (now (dst .exit)) ⌝ }
+// Writes the first h bytes of the keystreams of two tables to dst, those of the second behind those of the first. The
+// two run side by side.
+fn give_both(s: &mut [u32], t: &mut [u32], h: usize, dst: &mut [u8])
+    requires { ⌜ Rearranged (now s) × Rearranged (now t) × (h + h ≤ length (now dst)) ⌝ }
+    ensures { λ _. ⌜ Written (givenHalves (record { table = now (s .entry); i = 0; j = 0 }) (record { table = now (t .entry); i = 0; j = 0 }) h) 0 (h + h) (now (dst .entry)) (now (dst .exit)) ⌝ }
 {
-    let h = least(src.len(), dst.len()) / 2;
-    let mut s = a.table;
-    let i = wide(a.i);
-    let mut j = wide(a.j);
-    let mut t = b.table;
-    let u = wide(b.i);
-    let mut v = wide(b.j);
+    let mut first = Stepped {
+        j: 0,
+        entry: s[1],
+        byte: 0,
+    };
+    let mut second = Stepped {
+        j: 0,
+        entry: t[1],
+        byte: 0,
+    };
+    let mut i = 1;
     let mut k = 0;
     while k < h {
-        let m = (i + 1 + k) % 256;
-        let c = s[m];
-        j = (j + wide(c)) % 256;
-        let d = s[j];
-        s[m] = d;
-        s[j] = c;
-        let x = (wide(c) + wide(d)) % 256;
-        dst[k] = src[k] ^ s[x];
-        let n = (u + 1 + k) % 256;
-        let e = t[n];
-        v = (v + wide(e)) % 256;
-        let f = t[v];
-        t[n] = f;
-        t[v] = e;
-        let y = (wide(e) + wide(f)) % 256;
-        dst[k + h] = src[k + h] ^ t[y];
+        let next = (i + 1) % 256;
+        first = step(s, i, next, first);
+        second = step(t, i, next, second);
+        dst[k] = first.byte;
+        dst[k + h] = second.byte;
+        i = next;
         k += 1;
     }
+}
+
+// The first n bytes of dst, exclusive-or those of src.
+fn exclusive_or(src: &[u8], n: usize, dst: &mut [u8])
+    requires { ⌜ (n ≤ length (now src)) × (n ≤ length (now dst)) ⌝ }
+    ensures { λ _. ⌜ Written (λ (o : ℕ). bitXor (getD (now (src .entry)) o 0) (getD (now (dst .entry)) o 0)) 0 n (now (dst .entry)) (now (dst .exit)) ⌝ }
+{
+    let mut k = 0;
+    while k < n {
+        dst[k] = src[k] ^ dst[k];
+        k += 1;
+    }
+}
+
+// The first half of src under the keystream of one table and the second half under that of another, into dst. The
+// keystreams go to dst first, so that the loop over them touches nothing else that the caller lends.
+fn apply_both(s: &mut [u32], t: &mut [u32], src: &[u8], dst: &mut [u8])
+    requires { ⌜ Rearranged (now s) × Rearranged (now t) ⌝ }
+    ensures { λ _. ⌜ AppliesHalves (record { table = now (s .entry); i = 0; j = 0 }) (record { table = now (t .entry); i = 0; j = 0 }) (now (src .entry)) (now (dst .entry)) (now (dst .exit)) ⌝ }
+{
+    let h = least(src.len(), dst.len()) / 2;
+    give_both(s, t, h, dst);
+    exclusive_or(src, h + h, dst);
+}
+
+// The first half of src under the keystream of one key and the second half under that of another, into dst: as many
+// bytes as both have room for, less one if that is odd. Tells whether both keys have 5 to 16 bytes; dst stays as it is
+// if not. The two run side by side, mixing and all, over tables that are handed to nobody.
+pub fn apply_halves(key: &[u8], other: &[u8], src: &[u8], dst: &mut [u8]) -> bool
+    ensures { λ r. ⌜ r ≡ within 5 16 (length (now (key .entry))) && within 5 16 (length (now (other .entry))) ⌝ }
+    ensures { λ r. ⌜ now (dst .exit) ≡ pick r (encipheredHalves (keyed (now (key .entry))) (keyed (now (other .entry))) (now (src .entry)) (now (dst .entry))) (now (dst .entry)) ⌝ }
+{
+    if !fits(key.len()) {
+        return false;
+    }
+    if !fits(other.len()) {
+        return false;
+    }
+    let mut s = [0u32; 256];
+    let mut t = [0u32; 256];
+    unmixed(&mut s);
+    unmixed(&mut t);
+    mix_both(&mut s, &mut t, key, other);
+    apply_both(&mut s, &mut t, src, dst);
+    true
 }

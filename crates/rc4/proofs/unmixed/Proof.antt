@@ -5,7 +5,7 @@ use mathlib.Core.Path.{_≡_, refl, sym, _∙_}
 use native.Mathlib.Omega.{arith}
 use Prim.Native.Nat.{ℕ, _≤_, _-_, _%_}
 use native.Mathlib.Nat.{le-of-eq, mod-eq-of-lt}
-use lib.ListN.{length, take}
+use lib.ListN.{length, take, length-set}
 use lib.Seq.{take-all}
 use Rattle.laws.specs.Offsets.{tabulate}
 use Rattle.laws.proofs.Offsets.{tabulate-store}
@@ -25,8 +25,11 @@ loop-holds c = (search needs, search needs, refl)
 
 loop-again : tie.Need-loop-again Inv-loop μ-loop
 loop-again c =
-    let l = c .before .loop in
-    (search needs, search needs, tabulate-store (λ (n : ℕ). n) (l .t) (l .i) (l .i % 256) (omega arith) (l .inv .2) (mod-eq-of-lt (c .loop-test .taken)))
+    let l = c .before .loop in (
+      search needs,
+      simp length-set (l .inv .1),
+      tabulate-store (λ (n : ℕ). n) (l .t) (l .i) (l .i % 256) (omega arith) (l .inv .2) (mod-eq-of-lt (c .loop-test .taken)),
+    )
 
 returns : tie.Need-returns Inv-loop μ-loop
 unfolding identity
@@ -38,4 +41,15 @@ returns c =
 pub unmixed-spec : {M : Type 1} → statement M
 unmixed-spec =
     tie.close
-    (tie.spec Inv-loop μ-loop loop-holds (λ c. search needs) (λ c. search needs) (λ c. search needs) (λ c. search needs) loop-again returns)
+    (tie.spec
+    Inv-loop
+    μ-loop
+    loop-holds
+    (λ c. search needs)
+    (λ c. search needs)
+    (λ c. search needs)
+    (λ c. search needs)
+    (λ c. search needs)
+    loop-again
+    (λ c. search needs)
+    returns)
