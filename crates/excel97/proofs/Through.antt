@@ -4,6 +4,7 @@ use mathlib.Core.Path.{_≡_, refl, sym, ap, _∙_}
 use mathlib.Core.List.{List, [], _++_}
 use mathlib.Core.Option.{Option, some}
 use Prim.Native.Nat.{ℕ, _+_, _-_, _≤_, _<_, min}
+use native.Mathlib.Nat.{not-suc-le-zero}
 use native.Mathlib.Omega.{arith}
 use borrow.Author.Tests.{lt-ltb, le-ltb}
 use lib.ListN.{length, getD, take, drop}
@@ -81,10 +82,48 @@ module _ (s : List ℕ) (at id len : ℕ) (w : Reached s at) (e : stepAt s at �
         after = λ o h. v .after o (omega arith);
       })
 
+-- an output that is written up to an offset, while what lies behind that and ahead of n may hold anything
+pub record Passed (f : ℕ → ℕ) (at n : ℕ) (d d′ : List ℕ) : Type 0 where
+  pub same : length d′ ≡ length d
+  pub inside : (o : ℕ) → o < at → getD d′ o 0 ≡ f o
+  pub after : (o : ℕ) → n ≤ o → getD d′ o 0 ≡ getD d o 0
+
+pub passed-none : (f : ℕ → ℕ) (n : ℕ) (d : List ℕ) → Passed f 0 n d d
+passed-none f n d = record { same = refl; inside = λ o h. absurd (not-suc-le-zero h); after = λ o h. refl }
+
+-- a record that is written whole, and some bytes behind it
+module _ (s : List ℕ) (f : BiffRecord → ℕ → ℕ → ℕ) (at id len : ℕ) (w : Reached s at) (e : stepAt s at ≡ step.Record id len) (d d₁ d₂ : List ℕ) where
+  pub passed-record : (to : ℕ) → at + 4 + len ≤ to → to ≤ length s → Passed (throughAt s f) at (length s) d d₁
+      → Written (λ (o : ℕ). inRecord f (some (record { at = at; id = id; len = len })) o (getD s o 0)) at to d₁ d₂
+      → Passed (throughAt s f) (at + 4 + len) (length s) d d₂
+  passed-record to far within p v =
+      record {
+        same = v .same ∙ p .same;
+        inside = λ o h.
+            either at o
+            (λ m. v .inside o m (omega arith) ∙ sym (ap (λ (r : Option BiffRecord). inRecord f r o (getD s o 0)) (record-here s at id len w e o m h)))
+            (λ m. v .before o m ∙ p .inside o m);
+        after = λ o h. v .after o (omega arith) ∙ p .after o h;
+      }
+
+-- behind the records the stream's own bytes are written, and then all is
+pub passed-rest : (s : List ℕ) (f : BiffRecord → ℕ → ℕ → ℕ) (at : ℕ) → Reached s at → walkAt s at .records ≡ [] → (d d₁ d₂ : List ℕ)
+    → Passed (throughAt s f) at (length s) d d₁ → Written (λ (o : ℕ). getD s o 0) at (length s) d₁ d₂ → Written (throughAt s f) 0 (length s) d d₂
+passed-rest s f at w none-left d d₁ d₂ p v =
+    record {
+      same = v .same ∙ p .same;
+      before = λ o h. absurd (not-suc-le-zero h);
+      inside = λ o h k.
+          either at o
+          (λ m. v .inside o m k ∙ sym (ap (λ (r : Option BiffRecord). inRecord f r o (getD s o 0)) (in-none s at w none-left o m)))
+          (λ m. v .before o m ∙ p .inside o m);
+      after = λ o h. v .after o h ∙ p .after o h;
+    }
+
 -- a record under XOR: header and clear part are copied, and what is behind them is put through it in its place
-module _ (way : Way) (s array d d₁ ys : List ℕ) (at id len : ℕ) (clear start stop : ℕ) (inside : at + 4 + len ≤ length s) (room : length s ≤ length d) (ec : clear ≡ clearLen id len)
-    (es : start ≡ at + 4 + clear) (et : stop ≡ at + 4 + len) (front : Written (λ (o : ℕ). getD s o 0) at start d d₁)
-    (part : Transforms way array (stop + clear) (take (stop - start) (drop start s)) (take (stop - start) (drop start d₁)) ys) where
+module _ (way : Way) (s array d d₁ ys : List ℕ) (at id len : ℕ) (clear start end stop : ℕ) (inside : stop ≤ length s) (room : length s ≤ length d) (ec : clear ≡ clearLen id len)
+    (es : start ≡ at + 4 + clear) (et : end ≡ at + 4 + len) (far : end ≤ stop) (front : Written (λ (o : ℕ). getD s o 0) at start d d₁)
+    (part : Transforms way array (end + clear) (take (stop - start) (drop start s)) (take (stop - start) (drop start d₁)) ys) where
   abbrev it : BiffRecord
   it = record { at = at; id = id; len = len }
 
@@ -101,7 +140,7 @@ module _ (way : Way) (s array d d₁ ys : List ℕ) (at id len : ℕ) (clear sta
   fits-d = let c = least in let l = front .same in omega arith
 
   -- a byte behind the clear part
-  byte-is : (o : ℕ) → start ≤ o → transformed way array (stop + clear) (o - start) (getD s o 0) ≡ target o
+  byte-is : (o : ℕ) → start ≤ o → transformed way array (end + clear) (o - start) (getD s o 0) ≡ target o
   unfolding xorByte
   byte-is o h =
       let past : at + 4 + clearLen id len ≤ o = rw (← ec, ← es) h in
@@ -111,19 +150,19 @@ module _ (way : Way) (s array d d₁ ys : List ℕ) (at id len : ℕ) (clear sta
   behind =
       let n : min (length (take (stop - start) (drop start s))) (length (take (stop - start) (drop start d₁))) ≡ stop - start =
       rw (part-size s start (stop - start) fits-s, part-size d₁ start (stop - start) fits-d) (same (stop - start)) in
-      written-by (λ (o : ℕ). transformed way array (stop + clear) (o - start) (getD s o 0)) target start (start + (stop - start)) d₁
+      written-by (λ (o : ℕ). transformed way array (end + clear) (o - start) (getD s o 0)) target start (start + (stop - start)) d₁
       (take start d₁ ++ (ys ++ drop (stop - start) (drop start d₁))) (λ o h k. byte-is o h)
-      (lent-part (λ (i x : ℕ). transformed way array (stop + clear) i x) s d₁ ys start (stop - start) fits-s fits-d (rw n at (part .bytes)))
+      (lent-part (λ (i x : ℕ). transformed way array (end + clear) i x) s d₁ ys start (stop - start) fits-s fits-d (rw n at (part .bytes)))
     where
       same : (n : ℕ) → min n n ≡ n
       same n = omega arith
 
-  pub xor-record : Written target at (at + 4 + len) d (take start d₁ ++ (ys ++ drop (stop - start) (drop start d₁)))
+  pub xor-record : Written target at stop d (take start d₁ ++ (ys ++ drop (stop - start) (drop start d₁)))
   xor-record =
       let l = front .same in
       let c = least in
-      let e : start + (stop - start) ≡ at + 4 + len = omega arith in
-      rw (← e)
+      let e : start + (stop - start) ≡ stop = omega arith in
+      rw e at
       (written-join target at start (start + (stop - start)) d d₁ (take start d₁ ++ (ys ++ drop (stop - start) (drop start d₁))) (omega arith) (omega arith)
       (written-by (λ (o : ℕ). getD s o 0) target at start d d₁ (λ o h k. sym (own-byte (xorByte way array) it o (getD s o 0) (rw (← ec, ← es) k))) front)
       behind)

@@ -79,6 +79,31 @@ fn copy(src: &[u8], from: usize, to: usize, dst: &mut [u8])
     }
 }
 
+// Copies the four bytes of a header to the same places of dst. All are loaded ahead of the stores, so that LLVM makes one
+// copy of them.
+fn copy_header(src: &[u8], at: usize, dst: &mut [u8])
+    requires { ⌜ (at + 4 ≤ length (now src)) × (at + 4 ≤ length (now dst)) ⌝ }
+    ensures { λ _. ⌜ Written (λ (o : ℕ). getD (now (src .entry)) o 0) at (at + 4) (now (dst .entry)) (now (dst .exit)) ⌝ }
+{
+    let a = src[at];
+    let b = src[at + 1];
+    let c = src[at + 2];
+    let d = src[at + 3];
+    dst[at] = a;
+    dst[at + 1] = b;
+    dst[at + 2] = c;
+    dst[at + 3] = d;
+}
+
+// Copies a record's header and the clear part behind it to the same places of dst.
+fn copy_clear(src: &[u8], at: usize, clear: usize, dst: &mut [u8])
+    requires { ⌜ (at + 4 + clear ≤ length (now src)) × (at + 4 + clear ≤ length (now dst)) ⌝ }
+    ensures { λ _. ⌜ Written (λ (o : ℕ). getD (now (src .entry)) o 0) at (at + 4 + clear) (now (dst .entry)) (now (dst .exit)) ⌝ }
+{
+    copy_header(src, at, dst);
+    copy(src, at + 4, at + 4 + clear, dst);
+}
+
 // Zeroes the bytes from an offset up to another.
 fn zero(dst: &mut [u8], from: usize, to: usize)
     requires { ⌜ (from ≤ to) × (to ≤ length (now dst)) ⌝ }
@@ -153,7 +178,25 @@ fn try_xor(body: &[u8], password: &[u8]) -> Tried
     Tried { ok, array }
 }
 
-// Puts one record through XOR: its header and clear part are the stream's own.
+// How far a record is put through XOR whose enciphered bytes end at an offset: a part under 16 bytes goes on to 16 where
+// the stream has so many, since 16 bytes take less time than a few.
+fn far_enough(start: usize, end: usize, stream: usize) -> usize
+    requires { ⌜ (start ≤ end) × (end ≤ stream) ⌝ }
+    ensures { λ r. ⌜ (end ≤ r) × (r ≤ stream) ⌝ }
+{
+    if start == end {
+        return end;
+    }
+    if 16 <= end - start {
+        return end;
+    }
+    if stream - start < 16 {
+        return end;
+    }
+    start + 16
+}
+
+// Puts one record through XOR, as if it ended where the answer says: its header and clear part are the stream's own.
 fn xor_record(
     way: xor_obfuscation::Way,
     stream: &[u8],
@@ -162,24 +205,27 @@ fn xor_record(
     id: u16,
     len: u16,
     output: &mut [u8],
-)
+) -> usize
     requires { ⌜ (at + 4 + len ≤ length (now stream)) × (length (now stream) ≤ length (now output)) ⌝ }
-    ensures { λ _. ⌜ Written (λ (o : ℕ). inRecord (xorByte way (now (array .entry))) (some (record { at = at; id = id; len = len })) o (getD (now (stream .entry)) o 0)) at (at + 4 + len) (now (output .entry)) (now (output .exit)) ⌝ }
+    ensures { λ r. ⌜ (at + 4 + len ≤ r) × (r ≤ length (now (stream .entry))) × Written (λ (o : ℕ). inRecord (xorByte way (now (array .entry))) (some (record { at = at; id = id; len = len })) o (getD (now (stream .entry)) o 0)) at r (now (output .entry)) (now (output .exit)) ⌝ }
 {
     let clear = binary_office::clear_len(id, len) as usize;
     let start = at + 4 + clear;
     let end = at + 4 + (len as usize);
-    copy(stream, at, start, output);
+    let to = far_enough(start, end, stream.len());
+    copy_clear(stream, at, clear, output);
     xor_obfuscation::transform(
         way,
         array,
         end + clear,
-        &stream[start..end],
-        &mut output[start..end],
+        &stream[start..to],
+        &mut output[start..to],
     );
+    to
 }
 
-// Puts a stream through XOR, record by record; what lies behind the records is the stream's own.
+// Puts a stream through XOR, record by record; what lies behind the records is the stream's own. What a record's last
+// piece writes behind it the next one writes again.
 fn xor_records(way: xor_obfuscation::Way, stream: &[u8], array: &[u8; 16], output: &mut [u8])
     requires { ⌜ length (now stream) ≤ length (now output) ⌝ }
     ensures { λ _. ⌜ Written (throughAt (now (stream .entry)) (xorByte way (now (array .entry)))) 0 (length (now (stream .entry))) (now (output .entry)) (now (output .exit)) ⌝ }
@@ -214,7 +260,7 @@ fn restore(stream: &[u8], output: &mut [u8])
         match binary_office::step_at(stream, at) {
             binary_office::Step::Record(id, len) => {
                 let clear = binary_office::clear_len(id, len) as usize;
-                copy(stream, at, at + 4 + clear, output);
+                copy_clear(stream, at, clear, output);
                 at = at + 4 + (len as usize);
             }
             binary_office::Step::Fault(_) => {

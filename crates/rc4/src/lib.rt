@@ -245,11 +245,8 @@ fn step(t: &mut [u32], i: usize, next: usize, at: Stepped) -> Stepped
     t[j] = a;
     let sum = (wide_entry(a) + wide_entry(b)) % 256;
     let byte = (t[sum] % 256) as u8;
-    Stepped {
-        j,
-        entry: after_swap(next, j, a, loaded),
-        byte,
-    }
+    let entry = after_swap(next, j, a, loaded);
+    Stepped { j, entry, byte }
 }
 
 // Writes the first h bytes of the keystreams of two tables to dst, those of the second behind those of the first. The

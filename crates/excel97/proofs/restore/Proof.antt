@@ -25,8 +25,8 @@ abbrev μ-loop : tie.MeasureT-loop
 loop-holds : tie.Need-loop-holds Inv-loop μ-loop
 loop-holds c = (reached-none _, written-none _ _ _)
 
-copy-requires : tie.Need-copy-requires Inv-loop μ-loop
-copy-requires c κs =
+copy-clear-requires : tie.Need-copy-clear-requires Inv-loop μ-loop
+copy-clear-requires c κs =
     let at-id = c .before .before .before in
     let at-step-at = at-id .before .before in
     let at-loop = at-step-at .before in
@@ -36,7 +36,7 @@ copy-requires c κs =
     let m = clear-within (at-id .id .given .0 .0) (at-id .id .given .0 .1 .0) in
     let w = at-loop .loop .inv .1 .same in
     let p = start .pre in
-    (omega arith, omega arith, omega arith)
+    (omega arith, omega arith)
 
 loop-less : tie.Need-loop-less Inv-loop μ-loop
 loop-less c =
@@ -49,8 +49,8 @@ loop-less c =
 
 loop-again : tie.Need-loop-again Inv-loop μ-loop
 loop-again c =
-    let at-copy = c .before .before in
-    let at-clear-len = at-copy .before .before in
+    let at-copy-clear = c .before .before in
+    let at-clear-len = at-copy-clear .before .before in
     let at-id = at-clear-len .before .before in
     let at-step-at = at-id .before .before in
     let at-loop = at-step-at .before in
@@ -60,11 +60,11 @@ loop-again c =
     let e = sym (at-step-at .step-at .ensures) ∙ at-id .id .given .1 in (
       reached-on (args .stream .now) (loop .at) _ _ (loop .inv .0) e,
       through-kept (args .stream .now) (loop .at) _ _ (loop .inv .0) e (args .output .now) (loop .output) _ _
-          (ap (λ (n : ℕ). loop .at + 4 + n) (at-clear-len .clear-len .ensures)) (loop .inv .1) (at-copy .copy .ensures),
+          (ap (λ (n : ℕ). loop .at + 4 + n) (at-clear-len .clear-len .ensures)) (loop .inv .1) (at-copy-clear .copy-clear .ensures),
     )
 
-copy-requires-2 : tie.Need-copy-requires-2 Inv-loop μ-loop
-copy-requires-2 c κs =
+copy-requires : tie.Need-copy-requires Inv-loop μ-loop
+copy-requires c κs =
     let at-loop = c .before .before .before .before in
     let start = at-loop .before .before .before in
     let i = at-loop .loop .inv .0 .inside in
@@ -77,7 +77,7 @@ same-length c =
     let at-copy = c .before .before in
     let at-enum-told = at-copy .before .before in
     let at-loop = at-enum-told .before .before .before in
-    at-copy .copy2 .ensures .same ∙ at-loop .loop .inv .1 .same
+    at-copy .copy .ensures .same ∙ at-loop .loop .inv .1 .same
 
 returns : tie.Need-returns Inv-loop μ-loop
 returns c =
@@ -89,10 +89,10 @@ returns c =
     let start = at-loop .before .before .before in
     let fault = sym (at-step-at .step-at .ensures) ∙ at-enum-told .enum-told .given .1 in
     through-rest (start .args .stream .now) (λ (r : BiffRecord) (o x : ℕ). getD (start .args .output .now) o 0) (loop .at) (loop .inv .0)
-    (records-fault (start .args .stream .now) (loop .at) _ fault) (start .args .output .now) (loop .output) _ (loop .inv .1) (at-copy .copy2 .ensures)
+    (records-fault (start .args .stream .now) (loop .at) _ fault) (start .args .output .now) (loop .output) _ (loop .inv .1) (at-copy .copy .ensures)
 
-copy-requires-3 : tie.Need-copy-requires-3 Inv-loop μ-loop
-copy-requires-3 c κs =
+copy-requires-2 : tie.Need-copy-requires-2 Inv-loop μ-loop
+copy-requires-2 c κs =
     let at-loop = c .before .before .before .before in
     let start = at-loop .before .before .before in
     let i = at-loop .loop .inv .0 .inside in
@@ -105,7 +105,7 @@ same-length-2 c =
     let at-copy = c .before .before in
     let at-enum-told = at-copy .before .before in
     let at-loop = at-enum-told .before .before .before in
-    at-copy .copy3 .ensures .same ∙ at-loop .loop .inv .1 .same
+    at-copy .copy2 .ensures .same ∙ at-loop .loop .inv .1 .same
 
 returns-2 : tie.Need-returns-2 Inv-loop μ-loop
 returns-2 c =
@@ -117,7 +117,7 @@ returns-2 c =
     let start = at-loop .before .before .before in
     let end = sym (at-step-at .step-at .ensures) ∙ at-enum-told .enum-told2 .given .1 in
     through-rest (start .args .stream .now) (λ (r : BiffRecord) (o x : ℕ). getD (start .args .output .now) o 0) (loop .at) (loop .inv .0)
-    (records-end (start .args .stream .now) (loop .at) end) (start .args .output .now) (loop .output) _ (loop .inv .1) (at-copy .copy3 .ensures)
+    (records-end (start .args .stream .now) (loop .at) end) (start .args .output .now) (loop .output) _ (loop .inv .1) (at-copy .copy2 .ensures)
 
 pub restore-spec : {M : Type 1} → statement M
 restore-spec =
@@ -130,19 +130,17 @@ restore-spec =
     (λ c. search needs)
     (λ c κs. search needs)
     (λ c. search needs)
-    (λ c. search needs)
-    (λ c. search needs)
-    copy-requires
+    copy-clear-requires
     (λ c. search needs)
     (λ c. search needs)
     (λ c. search needs)
     loop-less
     loop-again
     (λ c. search needs)
-    copy-requires-2
+    copy-requires
     same-length
     returns
     (λ c. search needs)
-    copy-requires-3
+    copy-requires-2
     same-length-2
     returns-2)

@@ -18,36 +18,58 @@ module _ (c : tie.After-clear-len) where
       let start = c .before .before .before in
       rw (c .clear-len .ensures) (clear-within (start .args .id) (start .args .len))
 
-copy-requires : tie.Need-copy-requires
-copy-requires c κs =
-    let start = c .before .before .before .before in
-    let h = short (c .before) in
+far-enough-requires : tie.Need-far-enough-requires
+far-enough-requires c κs =
+    let h = short c in
+    let p = c .before .before .before .pre .0 in
+    (omega arith, omega arith)
+
+copy-clear-requires : tie.Need-copy-clear-requires
+copy-clear-requires c κs =
+    let start = c .before .before .before .before .before in
+    let h = short (c .before .before) in
     let p = start .pre .0 in
     let q = start .pre .1 in
-    (search needs, omega arith, omega arith)
+    (omega arith, omega arith)
 
 sub-transform : tie.Need-sub-transform
-sub-transform c = let h = short (c .before .before .before .before) in omega arith
+sub-transform c =
+    let h = short (c .before .before .before .before .before) in
+    let f = c .before .before .before .before .far-enough .ensures in
+    omega arith
 
 part-transform-start : tie.Need-part-transform-start
-part-transform-start c = let h = short (c .before .before .before .before) in omega arith
+part-transform-start c =
+    let h = short (c .before .before .before .before .before) in
+    let f = c .before .before .before .before .far-enough .ensures in
+    omega arith
 
 sub-transform-2 : tie.Need-sub-transform-2
-sub-transform-2 c = let h = short (c .before .before .before .before .before) in omega arith
+sub-transform-2 c =
+    let h = short (c .before .before .before .before .before .before) in
+    let f = c .before .before .before .before .before .far-enough .ensures in
+    omega arith
 
 part-transform-start-2 : tie.Need-part-transform-start-2
-part-transform-start-2 c = let h = short (c .before .before .before .before .before) in omega arith
+part-transform-start-2 c =
+    let h = short (c .before .before .before .before .before .before) in
+    let f = c .before .before .before .before .before .far-enough .ensures in
+    omega arith
 
 returns : tie.Need-returns
 returns c =
     let at-transform = c .before .before in
-    let at-copy = at-transform .before .before .before .before .before in
-    let at-clear-len = at-copy .before .before in
+    let at-copy-clear = at-transform .before .before .before .before .before in
+    let at-far-enough = at-copy-clear .before .before in
+    let at-clear-len = at-far-enough .before in
     let start = at-clear-len .before .before .before in
     let args = start .args in
-    xor-record (args .way) (args .stream .now) (args .array .now) (args .output .now) _ _ (args .at) (args .id) (args .len) (at-clear-len .clear-len .result) _ _
-    (start .pre .0) (start .pre .1)
-    (at-clear-len .clear-len .ensures) refl refl (at-copy .copy .ensures) (at-transform .transform .ensures)
+    let f = at-far-enough .far-enough .ensures in (
+      f .0,
+      f .1,
+      xor-record (args .way) (args .stream .now) (args .array .now) (args .output .now) _ _ (args .at) (args .id) (args .len) (at-clear-len .clear-len .result) _ _ _
+          (f .1) (start .pre .1) (at-clear-len .clear-len .ensures) refl refl (f .0) (at-copy-clear .copy-clear .ensures) (at-transform .transform .ensures),
+    )
 
 pub xor-record-spec : {M : Type 1} → statement M
 xor-record-spec =
@@ -59,7 +81,8 @@ xor-record-spec =
     (λ c. search needs)
     (λ c. search needs)
     (λ c. search needs)
-    copy-requires
+    far-enough-requires
+    copy-clear-requires
     (λ c. search needs)
     sub-transform
     part-transform-start

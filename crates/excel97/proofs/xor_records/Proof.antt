@@ -4,25 +4,24 @@ use mathlib.Core.Path.{sym, _∙_}
 use Prim.Native.Nat.{_-_}
 use native.Mathlib.Omega.{arith}
 use lib.ListN.{length}
-use Rattle.laws.proofs.Written.{Written, written-none}
 use Rattle.binary_office.proofs.Along.{records-end, records-fault}
 use Rattle.binary_office.proofs.Walks.{record-within}
 use Rattle.excel97.specs.Open.{xorByte}
 use Rattle.excel97.specs.Steps.{throughAt}
 use Rattle.excel97.proofs.Records.{Reached, reached-none, reached-on}
 use borrow.Author.Needs.{needs}
-use Rattle.excel97.proofs.Through.{through-record, through-rest}
+use Rattle.excel97.proofs.Through.{Passed, passed-none, passed-record, passed-rest}
 use Rattle.excel97.proofs.xor_records.Statement.{statement}
 use Rattle.excel97.proofs.xor_records.Tie as tie
 
 abbrev Inv-loop : tie.InvT-loop
-Inv-loop way stream array output₀ at₀ output at = Reached stream at × Written (throughAt stream (xorByte way array)) 0 at output₀ output
+Inv-loop way stream array output₀ at₀ output at = Reached stream at × Passed (throughAt stream (xorByte way array)) at (length stream) output₀ output
 
 abbrev μ-loop : tie.MeasureT-loop
 μ-loop way stream array output₀ at₀ output at = length stream - at
 
 loop-holds : tie.Need-loop-holds Inv-loop μ-loop
-loop-holds c = (reached-none _, written-none _ _ _)
+loop-holds c = (reached-none _, passed-none _ _ _)
 
 xor-record-requires : tie.Need-xor-record-requires Inv-loop μ-loop
 xor-record-requires c κs =
@@ -52,10 +51,11 @@ loop-again c =
     let loop = at-loop .loop in
     let start = at-loop .before .before .before in
     let args = start .args in
+    let done = at-xor-record .xor-record .ensures in
     let e = sym (at-step-at .step-at .ensures) ∙ at-id .id .given .1 in (
       reached-on (args .stream .now) (loop .at) _ _ (loop .inv .0) e,
-      through-record (args .stream .now) (xorByte (args .way) (args .array .now)) (loop .at) _ _ (loop .inv .0) e (args .output .now) (loop .output) _ (loop .inv .1)
-          (at-xor-record .xor-record .ensures),
+      passed-record (args .stream .now) (xorByte (args .way) (args .array .now)) (loop .at) _ _ (loop .inv .0) e (args .output .now) (loop .output) _ _ (done .0)
+          (done .1) (loop .inv .1) (done .2),
     )
 
 copy-requires : tie.Need-copy-requires Inv-loop μ-loop
@@ -83,7 +83,7 @@ returns c =
     let loop = at-loop .loop in
     let start = at-loop .before .before .before in
     let fault = sym (at-step-at .step-at .ensures) ∙ at-enum-told .enum-told .given .1 in
-    through-rest (start .args .stream .now) (xorByte (start .args .way) (start .args .array .now)) (loop .at) (loop .inv .0)
+    passed-rest (start .args .stream .now) (xorByte (start .args .way) (start .args .array .now)) (loop .at) (loop .inv .0)
     (records-fault (start .args .stream .now) (loop .at) _ fault) (start .args .output .now) (loop .output) _ (loop .inv .1) (at-copy .copy .ensures)
 
 copy-requires-2 : tie.Need-copy-requires-2 Inv-loop μ-loop
@@ -111,7 +111,7 @@ returns-2 c =
     let loop = at-loop .loop in
     let start = at-loop .before .before .before in
     let end = sym (at-step-at .step-at .ensures) ∙ at-enum-told .enum-told2 .given .1 in
-    through-rest (start .args .stream .now) (xorByte (start .args .way) (start .args .array .now)) (loop .at) (loop .inv .0)
+    passed-rest (start .args .stream .now) (xorByte (start .args .way) (start .args .array .now)) (loop .at) (loop .inv .0)
     (records-end (start .args .stream .now) (loop .at) end) (start .args .output .now) (loop .output) _ (loop .inv .1) (at-copy .copy2 .ensures)
 
 pub xor-records-spec : {M : Type 1} → statement M
