@@ -20,7 +20,7 @@ use Rattle.sha1.specs.Sha1.{sha1}
 use Rattle.md5.specs.Md5.{md5}
 use Rattle.rc4.specs.declared.Keystream.{Keystream}
 use Rattle.rc4.specs.declared.Made.{Made}
-use Rattle.rc4.specs.Rc4.{keyed, made, after, byteFrom, keystreamByte, Applies, encipheredHalves}
+use Rattle.rc4.specs.Rc4.{keyed, made, after, byteFrom, keystreamByte, Applies, enciphered, encipheredHalves}
 use Rattle.rc4.proofs.Table.{made-keyed, after-none, byte-resumed}
 use Rattle.password_digest.specs.Digest.{sha1Of, md5Of, fits, Digests}
 use Rattle.rc4_office97.specs.Keys as office97
@@ -101,6 +101,13 @@ module _ (s : Schedule) (block : ℕ) (d : DerivedKey) (e : d ≡ derived (block
   handed-stream m g =
       ap (λ (n : Made). n .keystream) (g ∙ ap made handed-key)
       ∙ key-stream (blockKey s block) (key-length s block .0) (key-length s block .1)
+
+-- a key that is handed over fits, so what is there is enciphered under it
+pub part-handed : (s : Schedule) (block : ℕ) (a : DerivedKey) → a ≡ derived (blockKey s block) → (ok : Bool) (m d d′ : List ℕ)
+    → ok ≡ within 5 16 (length (take (a .len) (a .bytes))) → d′ ≡ pick ok (enciphered (keyed (take (a .len) (a .bytes))) m d) d
+    → d′ ≡ enciphered (keyed (blockKey s block)) m d
+part-handed s block a ea ok m d d′ told e =
+    e ∙ taken _ _ (told ∙ handed-fits s block a ea) ∙ ap (λ (k : List ℕ). enciphered (keyed k) m d) (handed-key s block a ea)
 
 -- two keys that are handed over fit, so the halves are enciphered under them
 pub halves-handed : (s : Schedule) (block other : ℕ) (a b : DerivedKey) → a ≡ derived (blockKey s block) → b ≡ derived (blockKey s other)

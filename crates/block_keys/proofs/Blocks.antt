@@ -19,8 +19,7 @@ use Rattle.laws.specs.Offsets.{tabulate}
 use Rattle.laws.proofs.Choice.{taken, left, either, stop, skip}
 use Rattle.laws.proofs.Written.{Written, written-join, written-all}
 use Rattle.word.specs.Word.{le-bytes}
-use Rattle.rc4.specs.declared.Keystream.{Keystream}
-use Rattle.rc4.specs.Rc4.{keyed, keystreamByte, byteFrom, Applies, half, encipheredHalves}
+use Rattle.rc4.specs.Rc4.{keyed, keystreamByte, enciphered, half, encipheredHalves}
 use Rattle.rc4_office97.specs.Keys as office97
 use Rattle.rc4_cryptoapi.specs.Keys as cryptoapi
 use Rattle.block_keys.specs.declared.Kind.{Kind}
@@ -63,8 +62,8 @@ module _ (size : ℕ) (keyOf : ℕ → List ℕ) (s : List ℕ) (block at o : �
       rw (q, r)
 
 -- one block
-module _ (k k′ : Keystream) (key s d ys : List ℕ) (at end : ℕ) (e : k ≡ keyed key) (le : at ≤ end) (hs : end ≤ length s) (hd : end ≤ length d)
-    (a : Applies k (take (end - at) (drop at s)) (take (end - at) (drop at d)) k′ ys) where
+module _ (key s d ys : List ℕ) (at end : ℕ) (le : at ≤ end) (hs : end ≤ length s) (hd : end ≤ length d)
+    (a : ys ≡ enciphered (keyed key) (take (end - at) (drop at s)) (take (end - at) (drop at d))) where
   pub one-block : Written (λ (o : ℕ). bitXor (getD s o 0) (keystreamByte key (o - at))) at end d (take at d ++ (ys ++ drop (end - at) (drop at d)))
   one-block =
       let fs : at + (end - at) ≤ length s = omega arith in
@@ -72,7 +71,7 @@ module _ (k k′ : Keystream) (key s d ys : List ℕ) (at end : ℕ) (e : k ≡ 
       let n : min (length (take (end - at) (drop at s))) (length (take (end - at) (drop at d))) ≡ end - at =
       rw (part-size s at (end - at) fs, part-size d at (end - at) fd) (least (end - at)) in
       let back : at + (end - at) ≡ end = omega arith in
-      rw back at (lent-part (λ (i x : ℕ). bitXor x (keystreamByte key i)) s d ys at (end - at) fs fd (rw (n, e) at (a .bytes)))
+      rw back at (lent-part (λ (i x : ℕ). bitXor x (keystreamByte key i)) s d ys at (end - at) fs fd (rw n at a))
     where
       least : (n : ℕ) → min n n ≡ n
       least n = omega arith

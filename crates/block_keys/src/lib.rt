@@ -366,13 +366,6 @@ fn least(a: usize, b: usize) -> usize
     if a < b { a } else { b }
 }
 
-// The keystream of a block by its number, of which the key takes 32 bits.
-fn keystream_of(schedule: Schedule, block: usize) -> rc4::Keystream
-    ensures { λ r. ⌜ r ≡ keyed (blockKey schedule block) ⌝ }
-{
-    keystream(schedule, (block % 0x1_0000_0000) as u32)
-}
-
 // The key of a block by its number, of which the key takes 32 bits.
 fn key_of(schedule: Schedule, block: usize) -> sensitive::DerivedKey
     ensures { λ r. ⌜ r ≡ derived (blockKey schedule block) ⌝ }
@@ -392,8 +385,10 @@ fn decrypt_block(
     requires { ⌜ (at ≤ end) × (end ≤ length (now src)) × (end ≤ length (now dst)) ⌝ }
     ensures { λ _. ⌜ Written (λ (o : ℕ). bitXor (getD (now (src .entry)) o 0) (keystreamByte (blockKey schedule block) (o - at))) at end (now (dst .entry)) (now (dst .exit)) ⌝ }
 {
-    let k = keystream_of(schedule, block);
-    k.apply(&src[at..end], &mut dst[at..end]);
+    let key = key_of(schedule, block);
+    let bytes = key.bytes;
+    let len = key.len;
+    rc4::apply_key(&bytes[..len], &src[at..end], &mut dst[at..end]);
 }
 
 // Deciphers two whole blocks, side by side.

@@ -1,22 +1,23 @@
--- Two keystreams side by side: an output whose two halves are written from their starts on.
+-- A keystream, and two side by side: an output whose two halves are written from their starts on.
 -- What lies between the two parts is never asked for: at the end there is nothing there.
 -- Assumes nothing.
 use mathlib.Core.Path.{_≡_, refl, sym, ap, _∙_}
 use mathlib.Core.Bool.{Bool, true, false}
-use mathlib.Core.List.{List}
-use Prim.Native.Nat.{ℕ, _+_, _-_, _≤_, _<_}
+use mathlib.Core.List.{List, _++_}
+use Prim.Native.Nat.{ℕ, _+_, _-_, _≤_, _<_, min}
 use native.Mathlib.Nat.{not-suc-le-zero}
 use native.Mathlib.Omega.{arith}
 use lib.Bits.{bitXor}
 use lib.Dec.{ltb}
-use lib.ListN.{length, getD, set, length-set}
+use lib.ListN.{length, getD, set, drop, length-set}
 use lib.Seq.{getD-set-same, getD-set-other}
 use borrow.Author.Tests.{lt-ltb, le-ltb}
 use Rattle.laws.specs.Choice.{pick}
+use Rattle.laws.specs.Offsets.{tabulate}
 use Rattle.laws.proofs.Choice.{stop, skip, either}
 use Rattle.laws.proofs.Written.{Written, written-all}
 use Rattle.rc4.specs.declared.Keystream.{Keystream}
-use Rattle.rc4.specs.Rc4.{mixing, keyed, byteFrom, applied, half, appliedHalves, encipheredHalves, AppliesHalves}
+use Rattle.rc4.specs.Rc4.{mixing, keyed, byteFrom, applied, enciphered, half, appliedHalves, encipheredHalves, AppliesHalves}
 use Rattle.rc4.specs.Steps.{givenHalves}
 
 -- an output of which k bytes of each half are written, the halves being h long: they hold f at their offsets, and nothing behind them is changed
@@ -93,11 +94,29 @@ applies-halves a b s d d₁ d₂ h eh v w =
     } in
     record { bytes = written-all (appliedHalves a b h s) (h + h) d d₂ fits both ∙ rw eh refl }
 
--- the tables are those of two keys
+-- the keystream's bytes of a key's table, and then exclusive-or those of s
 table-keyed : (key t : List ℕ) → t ≡ mixing key 256 .table → record { table = t; i = 0; j = 0 } ≡ keyed key
 unfolding keyed
 table-keyed key t e = ap (λ (l : List ℕ). record { table = l; i = 0; j = 0 }) e
 
+pub one-keyed : (key t s d d₁ d₂ : List ℕ) (n : ℕ) → t ≡ mixing key 256 .table → n ≡ min (length s) (length d)
+    → Written (byteFrom (record { table = t; i = 0; j = 0 })) 0 n d d₁ → Written (λ (o : ℕ). bitXor (getD s o 0) (getD d₁ o 0)) 0 n d₁ d₂
+    → d₂ ≡ enciphered (keyed key) s d
+one-keyed key t s d d₁ d₂ n et en v w =
+    let k : Keystream = record { table = t; i = 0; j = 0 } in
+    let fits : n ≤ length d = omega arith in
+    let both : Written (applied k s) 0 n d d₂ =
+    record {
+      same = w .same ∙ v .same;
+      before = λ o g. absurd (not-suc-le-zero g);
+      inside = λ o g l. w .inside o g l ∙ ap (bitXor (getD s o 0)) (v .inside o g l);
+      after = λ o g. w .after o g ∙ v .after o g;
+    } in
+    written-all (applied k s) n d d₂ fits both
+    ∙ ap (λ (m : ℕ). tabulate (applied k s) m ++ drop m d) en
+    ∙ ap (λ (u : Keystream). enciphered u s d) (table-keyed key t et)
+
+-- the tables are those of two keys
 pub halves-keyed : (key other t u s d d′ : List ℕ) → t ≡ mixing key 256 .table → u ≡ mixing other 256 .table
     → AppliesHalves (record { table = t; i = 0; j = 0 }) (record { table = u; i = 0; j = 0 }) s d d′ → d′ ≡ encipheredHalves (keyed key) (keyed other) s d
 halves-keyed key other t u s d d′ et eu a =
