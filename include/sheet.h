@@ -176,7 +176,7 @@ uint32_t sheet_forecast(const uint8_t *stream, size_t stream_len, uint64_t facts
  *
  *   - call sheet_open from a function that is not inlined, and then, from the same caller, a second one that is not
  *     inlined and overwrites a local array of 16 KiB through a pointer to volatile. A call was measured to go less than
- *     4,400 bytes deep, and less than 6,500 where the dynamic linker binds memcpy or memset during it;
+ *     5,500 bytes deep, and less than 8,000 where the dynamic linker binds memcpy or memset during it;
  *   - link with -z now, or clear the vector registers after the call (vzeroall, and zmm16 to zmm31 where there are
  *     any): parts of the tables, and under XOR of the array, are left there, and a function bound at its first call,
  *     or a signal handled on the same stack, saves them to the stack;

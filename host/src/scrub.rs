@@ -4,7 +4,7 @@ use std::arch::asm;
 use std::mem::MaybeUninit;
 use std::sync::atomic::{compiler_fence, Ordering};
 
-/// The stack that is overwritten after a call, in bytes. A call was measured to use less than 4,400.
+/// The stack that is overwritten after a call, in bytes. A call was measured to use less than 5,500.
 const SCRUBBED_LEN: usize = 16 * 1024;
 
 /// Overwrites what a call that takes a password can have left behind in registers and on the stack:
