@@ -19,10 +19,10 @@ use Rattle.rc4.proofs.Carried.{carried-is-remainder}
 use Rattle.rc4.proofs.Rearranged.{swap-rearranged, rearranged-small, rearranged-length}
 use Rattle.rc4.proofs.Table.{mixing-none, after-none, after-more, byte-more}
 
-pub mixed-none : (key t : List ℕ) → 1 ≤ length key → t ≡ identity → MixedTo key 0 (record { j = 0; index = 0; entry = 0 }) t
+pub mixed-none : (key t : List ℕ) (at : Mixed) → 1 ≤ length key → t ≡ identity → at ≡ record { j = 0; index = 0; entry = 0 } → MixedTo key 0 at t
 unfolding carriedIndex identity
-mixed-none key t some e =
-    record {
+mixed-none key t at some e g =
+    rw g record {
       some = some;
       entries = rw e (length-tabulate (λ (n : ℕ). n) 256);
       small = omega arith;

@@ -105,17 +105,24 @@ fn mix(t: &mut [u32], key: &[u8], i: usize, at: Mixed) -> Mixed
     }
 }
 
+// What the first step of a key's mixing is handed: j and the key index at 0, and entry 0, which is 0.
+fn unstarted() -> Mixed
+    ensures { λ r. ⌜ r ≡ record { j = 0; index = 0; entry = 0 } ⌝ }
+{
+    Mixed {
+        j: 0,
+        index: 0,
+        entry: 0,
+    }
+}
+
 // Mixes a key into a table.
 fn mix_one(t: &mut [u32], key: &[u8])
     requires { ⌜ (now t ≡ identity) × (0 < length (now key)) ⌝ }
     ensures { λ _. ⌜ now (t .exit) ≡ mixing (now (key .entry)) 256 .table ⌝ }
 {
     let mut i = 0;
-    let mut at = Mixed {
-        j: 0,
-        index: 0,
-        entry: 0,
-    };
+    let mut at = unstarted();
     while i < 256 {
         at = mix(t, key, i, at);
         i += 1;
@@ -129,16 +136,8 @@ fn mix_both(s: &mut [u32], t: &mut [u32], key: &[u8], other: &[u8])
     ensures { λ _. ⌜ (now (s .exit) ≡ mixing (now (key .entry)) 256 .table) × (now (t .exit) ≡ mixing (now (other .entry)) 256 .table) ⌝ }
 {
     let mut i = 0;
-    let mut first = Mixed {
-        j: 0,
-        index: 0,
-        entry: 0,
-    };
-    let mut second = Mixed {
-        j: 0,
-        index: 0,
-        entry: 0,
-    };
+    let mut first = unstarted();
+    let mut second = unstarted();
     while i < 256 {
         first = mix(s, key, i, first);
         second = mix(t, other, i, second);

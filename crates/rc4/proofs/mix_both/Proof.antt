@@ -18,8 +18,8 @@ abbrev μ-loop : tie.MeasureT-loop
 
 loop-holds : tie.Need-loop-holds Inv-loop μ-loop
 loop-holds c =
-    let p = c .before .before .before .before .pre in
-    (search needs, search needs, mixed-none _ _ (p .2) (p .0), mixed-none _ _ (p .3) (p .1))
+    let p = c .before .before .before .before .before .before .pre in
+    (search needs, search needs, mixed-none _ _ _ (p .2) (p .0) (c .before .unstarted .ensures), mixed-none _ _ _ (p .3) (p .1) (c .unstarted2 .ensures))
 
 mix-requires : tie.Need-mix-requires Inv-loop μ-loop
 mix-requires c κs = (omega arith, c .before .before .loop .inv .2)
@@ -50,15 +50,17 @@ loop-again c =
 
 same-length : tie.Need-same-length Inv-loop μ-loop
 same-length c =
-    let start = c .before .before .before .before .before .before in
-    let before = mixed-none (start .args .key .now) (start .args .s .now) (start .pre .2) (start .pre .0) .entries in
+    let at-unstarted = c .before .before .before in
+    let start = at-unstarted .before .before .before .before .before in
+    let before = mixed-none (start .args .key .now) (start .args .s .now) _ (start .pre .2) (start .pre .0) (at-unstarted .unstarted .ensures) .entries in
     let after = c .before .loop .inv .2 .entries in
     after ∙ sym before
 
 same-length-2 : tie.Need-same-length-2 Inv-loop μ-loop
 same-length-2 c =
-    let start = c .before .before .before .before .before .before in
-    let before = mixed-none (start .args .other .now) (start .args .t .now) (start .pre .3) (start .pre .1) .entries in
+    let at-unstarted = c .before .before .before in
+    let start = at-unstarted .before .before .before .before .before in
+    let before = mixed-none (start .args .other .now) (start .args .t .now) _ (start .pre .3) (start .pre .1) (at-unstarted .unstarted .ensures) .entries in
     let after = c .before .loop .inv .3 .entries in
     after ∙ sym before
 
@@ -74,6 +76,8 @@ mix-both-spec =
     (tie.spec
     Inv-loop
     μ-loop
+    (λ c κs. search needs)
+    (λ c κs. search needs)
     loop-holds
     mix-requires
     mix-requires-2

@@ -18,16 +18,17 @@ abbrev μ-loop : tie.MeasureT-loop
 
 loop-holds : tie.Need-loop-holds Inv-loop μ-loop
 loop-holds c =
-    let start = c .before .before in
-    (search needs, mixed-none _ _ (start .pre .1) (start .pre .0))
+    let start = c .before .before .before in
+    (search needs, mixed-none _ _ _ (start .pre .1) (start .pre .0) (c .unstarted .ensures))
 
 mix-requires : tie.Need-mix-requires Inv-loop μ-loop
 mix-requires c κs = (omega arith, c .before .before .loop .inv .1)
 
 same-length : tie.Need-same-length Inv-loop μ-loop
 same-length c =
-    let start = c .before .before .before .before in
-    let before = mixed-none (start .args .key .now) (start .args .t .now) (start .pre .1) (start .pre .0) .entries in
+    let at-unstarted = c .before .before in
+    let start = at-unstarted .before .before .before in
+    let before = mixed-none (start .args .key .now) (start .args .t .now) _ (start .pre .1) (start .pre .0) (at-unstarted .unstarted .ensures) .entries in
     let after = c .before .loop .inv .1 .entries in
     after ∙ sym before
 
@@ -43,6 +44,7 @@ mix-one-spec =
     (tie.spec
     Inv-loop
     μ-loop
+    (λ c κs. search needs)
     loop-holds
     mix-requires
     (λ c. search needs)
