@@ -26,6 +26,9 @@ const PAINT: u8 = 0xA5;
 const RUN: usize = 8;
 const TELLING: usize = 3;
 
+/// How the names of tables in words begin.
+const WORDS: &str = "in words: ";
+
 /// Paints the stack below the stack pointer of the function that this stands in.
 macro_rules! paint {
     () => {
@@ -231,6 +234,13 @@ fn text_of(password: &str) -> Secrets {
     secrets
 }
 
+/// A table as the password check has it, in bytes, and as the blocks have it, in words of 32 bits.
+fn tables(name: &str, table: &[u8; 256], secrets: &mut Secrets) {
+    secrets.push((name.to_string(), table.to_vec()));
+    let words = table.iter().flat_map(|entry| [*entry, 0, 0, 0]).collect();
+    secrets.push((format!("{WORDS}{name}"), words));
+}
+
 /// All that a book's password is made into.
 fn secrets(book: &Book) -> Secrets {
     let mut secrets = text_of(book.password);
@@ -249,13 +259,13 @@ fn secrets(book: &Book) -> Secrets {
         let key = book.kind.block_key(book.password, block);
         let mut rc4 = Rc4::new(&key);
         both_forms(&format!("key of block {block}"), &key, &mut secrets);
-        secrets.push((format!("table of block {block}"), rc4.table.to_vec()));
+        tables(&format!("table of block {block}"), &rc4.table, &mut secrets);
         for used in 1..=part.len() {
             rc4.byte();
             // After the check of the password, and at the end of the block.
             if [32, 36, part.len()].contains(&used) {
                 let name = format!("table of block {block} after {used} bytes");
-                secrets.push((name, rc4.table.to_vec()));
+                tables(&name, &rc4.table, &mut secrets);
             }
         }
     }
@@ -267,9 +277,15 @@ fn found(secrets: &Secrets, region: &[u8]) -> Vec<String> {
     let runs: std::collections::HashSet<&[u8]> = region.windows(RUN).collect();
     let shorter = |secret: &[u8]| region.windows(secret.len()).any(|window| window == secret);
     let telling = |run: &&[u8]| run.iter().filter(|byte| **byte != 0).count() >= TELLING;
+    // Of a table in words a run of bytes has two entries; a longer one is asked for.
+    let words: std::collections::HashSet<&[u8]> = region.windows(2 * RUN).collect();
     secrets
         .iter()
-        .filter(|(_, secret)| match secret.len() {
+        .filter(|(name, secret)| match secret.len() {
+            _ if name.starts_with(WORDS) => secret
+                .windows(2 * RUN)
+                .filter(telling)
+                .any(|run| words.contains(run)),
             0..RUN => shorter(secret),
             _ => secret
                 .windows(RUN)
@@ -389,7 +405,7 @@ fn the_same_search_finds_secrets_where_nothing_is_scrubbed() {
             let sort = |word: &str| names.iter().any(|name| name.starts_with(word));
             match book.kind {
                 Kind::Xor => assert!(sort("password") && sort("XOR array")),
-                _ => assert!(sort("H0") && sort("key") && sort("table")),
+                _ => assert!(sort("H0") && sort("key") && sort("table") && sort(WORDS)),
             }
         }
     }

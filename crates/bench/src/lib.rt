@@ -43,7 +43,7 @@ pub extern "C" fn bench_rc4(key: &[u8], src: &[u8], dst: &mut [u8]) -> bool
     true
 }
 
-// The halves of src under the keystreams of two keys, into dst; false for a key of no such length.
+// The halves of src under the keystreams of two keys, into dst; false for a key of no such length, and dst stays as it is.
 #[no_mangle]
 pub extern "C" fn bench_rc4_halves(key: &[u8], other: &[u8], src: &[u8], dst: &mut [u8]) -> bool
     ensures { λ r. ⌜ r ≡ within 5 16 (length (now (key .entry))) && within 5 16 (length (now (other .entry))) ⌝ }

@@ -34,21 +34,12 @@ module _ (s : List ℕ) (f : BiffRecord → ℕ → ℕ → ℕ) (at id len : �
   here o h k = ap (λ (r : Option BiffRecord). inRecord f r o (getD s o 0)) (record-here s at id len w e o h k)
 
   -- a record that is written whole
-  pub through-record : Written (λ (o : ℕ). inRecord f (some (record { at = at; id = id; len = len })) o (getD s o 0)) at (at + 4 + len) d₁ d₂
+  through-record : Written (λ (o : ℕ). inRecord f (some (record { at = at; id = id; len = len })) o (getD s o 0)) at (at + 4 + len) d₁ d₂
       → Written (throughAt s f) 0 (at + 4 + len) d d₂
   through-record v =
       written-join (throughAt s f) 0 at (at + 4 + len) d d₁ d₂ (omega arith) (omega arith) before
       (written-by (λ (o : ℕ). inRecord f (some (record { at = at; id = id; len = len })) o (getD s o 0)) (throughAt s f) at (at + 4 + len) d₁ d₂
       (λ o h k. sym (here o h k)) v)
-
--- behind the records the stream's own bytes are written
-pub through-rest : (s : List ℕ) (f : BiffRecord → ℕ → ℕ → ℕ) (at : ℕ) → Reached s at → walkAt s at .records ≡ [] → (d d₁ d₂ : List ℕ)
-    → Written (throughAt s f) 0 at d d₁ → Written (λ (o : ℕ). getD s o 0) at (length s) d₁ d₂ → Written (throughAt s f) 0 (length s) d d₂
-through-rest s f at w none-left d d₁ d₂ before v =
-    let i = w .inside in
-    written-join (throughAt s f) 0 at (length s) d d₁ d₂ (omega arith) i before
-    (written-by (λ (o : ℕ). getD s o 0) (throughAt s f) at (length s) d₁ d₂
-    (λ o h k. sym (ap (λ (r : Option BiffRecord). inRecord f r o (getD s o 0)) (in-none s at w none-left o h))) v)
 
 -- an output that is too short, and one that has room
 pub through-short : (s : List ℕ) (f : BiffRecord → ℕ → ℕ → ℕ) (d : List ℕ) → length d < length s → Through s f d d
@@ -83,20 +74,20 @@ module _ (s : List ℕ) (at id len : ℕ) (w : Reached s at) (e : stepAt s at �
       })
 
 -- an output that is written up to an offset, while what lies behind that and ahead of n may hold anything
-pub record Passed (f : ℕ → ℕ) (at n : ℕ) (d d′ : List ℕ) : Type 0 where
+pub record WrittenUpTo (f : ℕ → ℕ) (at n : ℕ) (d d′ : List ℕ) : Type 0 where
   pub same : length d′ ≡ length d
   pub inside : (o : ℕ) → o < at → getD d′ o 0 ≡ f o
   pub after : (o : ℕ) → n ≤ o → getD d′ o 0 ≡ getD d o 0
 
-pub passed-none : (f : ℕ → ℕ) (n : ℕ) (d : List ℕ) → Passed f 0 n d d
-passed-none f n d = record { same = refl; inside = λ o h. absurd (not-suc-le-zero h); after = λ o h. refl }
+pub up-to-none : (f : ℕ → ℕ) (n : ℕ) (d : List ℕ) → WrittenUpTo f 0 n d d
+up-to-none f n d = record { same = refl; inside = λ o h. absurd (not-suc-le-zero h); after = λ o h. refl }
 
 -- a record that is written whole, and some bytes behind it
 module _ (s : List ℕ) (f : BiffRecord → ℕ → ℕ → ℕ) (at id len : ℕ) (w : Reached s at) (e : stepAt s at ≡ step.Record id len) (d d₁ d₂ : List ℕ) where
-  pub passed-record : (to : ℕ) → at + 4 + len ≤ to → to ≤ length s → Passed (throughAt s f) at (length s) d d₁
+  pub up-to-record : (to : ℕ) → at + 4 + len ≤ to → to ≤ length s → WrittenUpTo (throughAt s f) at (length s) d d₁
       → Written (λ (o : ℕ). inRecord f (some (record { at = at; id = id; len = len })) o (getD s o 0)) at to d₁ d₂
-      → Passed (throughAt s f) (at + 4 + len) (length s) d d₂
-  passed-record to far within p v =
+      → WrittenUpTo (throughAt s f) (at + 4 + len) (length s) d d₂
+  up-to-record to far within p v =
       record {
         same = v .same ∙ p .same;
         inside = λ o h.
@@ -107,9 +98,9 @@ module _ (s : List ℕ) (f : BiffRecord → ℕ → ℕ → ℕ) (at id len : �
       }
 
 -- behind the records the stream's own bytes are written, and then all is
-pub passed-rest : (s : List ℕ) (f : BiffRecord → ℕ → ℕ → ℕ) (at : ℕ) → Reached s at → walkAt s at .records ≡ [] → (d d₁ d₂ : List ℕ)
-    → Passed (throughAt s f) at (length s) d d₁ → Written (λ (o : ℕ). getD s o 0) at (length s) d₁ d₂ → Written (throughAt s f) 0 (length s) d d₂
-passed-rest s f at w none-left d d₁ d₂ p v =
+pub up-to-rest : (s : List ℕ) (f : BiffRecord → ℕ → ℕ → ℕ) (at : ℕ) → Reached s at → walkAt s at .records ≡ [] → (d d₁ d₂ : List ℕ)
+    → WrittenUpTo (throughAt s f) at (length s) d d₁ → Written (λ (o : ℕ). getD s o 0) at (length s) d₁ d₂ → Written (throughAt s f) 0 (length s) d d₂
+up-to-rest s f at w none-left d d₁ d₂ p v =
     record {
       same = v .same ∙ p .same;
       before = λ o h. absurd (not-suc-le-zero h);
@@ -119,6 +110,14 @@ passed-rest s f at w none-left d d₁ d₂ p v =
           (λ m. v .before o m ∙ p .inside o m);
       after = λ o h. v .after o h ∙ p .after o h;
     }
+
+-- the same of an output of which nothing behind the offset was written
+pub through-rest : (s : List ℕ) (f : BiffRecord → ℕ → ℕ → ℕ) (at : ℕ) → Reached s at → walkAt s at .records ≡ [] → (d d₁ d₂ : List ℕ)
+    → Written (throughAt s f) 0 at d d₁ → Written (λ (o : ℕ). getD s o 0) at (length s) d₁ d₂ → Written (throughAt s f) 0 (length s) d d₂
+through-rest s f at w none-left d d₁ d₂ before v =
+    let i = w .inside in
+    up-to-rest s f at w none-left d d₁ d₂
+    (record { same = before .same; inside = λ o h. before .inside o (omega arith) h; after = λ o h. before .after o (omega arith) }) v
 
 -- a record under XOR: header and clear part are copied, and what is behind them is put through it in its place
 module _ (way : Way) (s array d d₁ ys : List ℕ) (at id len : ℕ) (clear start end stop : ℕ) (inside : stop ≤ length s) (room : length s ≤ length d) (ec : clear ≡ clearLen id len)

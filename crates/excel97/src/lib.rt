@@ -79,8 +79,8 @@ fn copy(src: &[u8], from: usize, to: usize, dst: &mut [u8])
     }
 }
 
-// Copies the four bytes of a header to the same places of dst. All are loaded ahead of the stores, so that LLVM makes one
-// copy of them.
+// Copies the four bytes of a header to the same places of dst. All are loaded ahead of the stores, so that LLVM copies
+// them at once.
 fn copy_header(src: &[u8], at: usize, dst: &mut [u8])
     requires { ⌜ (at + 4 ≤ length (now src)) × (at + 4 ≤ length (now dst)) ⌝ }
     ensures { λ _. ⌜ Written (λ (o : ℕ). getD (now (src .entry)) o 0) at (at + 4) (now (dst .entry)) (now (dst .exit)) ⌝ }
@@ -178,8 +178,8 @@ fn try_xor(body: &[u8], password: &[u8]) -> Tried
     Tried { ok, array }
 }
 
-// How far a record is put through XOR whose enciphered bytes end at an offset: a part under 16 bytes goes on to 16 where
-// the stream has so many, since 16 bytes take less time than a few.
+// Up to where a record's enciphered bytes are put through XOR: under 16 of them go on to 16 where the stream has so
+// many, since 16 bytes take less time than a few.
 fn far_enough(start: usize, end: usize, stream: usize) -> usize
     requires { ⌜ (start ≤ end) × (end ≤ stream) ⌝ }
     ensures { λ r. ⌜ (end ≤ r) × (r ≤ stream) ⌝ }
@@ -196,7 +196,8 @@ fn far_enough(start: usize, end: usize, stream: usize) -> usize
     start + 16
 }
 
-// Puts one record through XOR, as if it ended where the answer says: its header and clear part are the stream's own.
+// Puts one record through XOR, and what follows it up to where the answer says, by the record's own index: header and
+// clear part are the stream's own.
 fn xor_record(
     way: xor_obfuscation::Way,
     stream: &[u8],
@@ -224,8 +225,8 @@ fn xor_record(
     to
 }
 
-// Puts a stream through XOR, record by record; what lies behind the records is the stream's own. What a record's last
-// piece writes behind it the next one writes again.
+// Puts a stream through XOR, record by record; what lies behind the records is the stream's own. What is written behind
+// a short record is written again by what comes behind it.
 fn xor_records(way: xor_obfuscation::Way, stream: &[u8], array: &[u8; 16], output: &mut [u8])
     requires { ⌜ length (now stream) ≤ length (now output) ⌝ }
     ensures { λ _. ⌜ Written (throughAt (now (stream .entry)) (xorByte way (now (array .entry)))) 0 (length (now (stream .entry))) (now (output .entry)) (now (output .exit)) ⌝ }

@@ -1,7 +1,7 @@
 -- A keystream, and two side by side: an output whose two halves are written from their starts on.
 -- What lies between the two parts is never asked for: at the end there is nothing there.
 -- Assumes nothing.
-use mathlib.Core.Path.{_≡_, refl, sym, ap, _∙_}
+use mathlib.Core.Path.{_≡_, refl, ap, _∙_}
 use mathlib.Core.Bool.{Bool, true, false}
 use mathlib.Core.List.{List, _++_}
 use Prim.Native.Nat.{ℕ, _+_, _-_, _≤_, _<_, min}

@@ -1,7 +1,7 @@
 -- What the key mixing and a keystream keep from step to step: that it holds at the start, and after a step; the carried index lies within the key, and the
 -- byte of a step is the keystream's.
 -- Assumes nothing.
-use mathlib.Core.Path.{_≡_, refl, sym, ap, _∙_}
+use mathlib.Core.Path.{_≡_, refl, sym, _∙_}
 use mathlib.Core.List.{List}
 use Prim.Native.Nat.{ℕ, _+_, _%_, _≤_, _<_}
 use native.Mathlib.Nat.{mod-lt, mod-eq-of-lt}
@@ -13,7 +13,7 @@ use Rattle.rc4.specs.declared.Keystream.{Keystream}
 use Rattle.rc4.specs.declared.Mixed.{Mixed}
 use Rattle.rc4.specs.declared.Stepped.{Stepped}
 use Rattle.rc4.specs.KeyIndex.{carriedIndex}
-use Rattle.rc4.specs.Rc4.{identity, swap, mixing, after, byteFrom, Rearranged}
+use Rattle.rc4.specs.Rc4.{identity, swap, after, byteFrom, Rearranged}
 use Rattle.rc4.specs.Steps.{MixedTo, StepsTo}
 use Rattle.rc4.proofs.Carried.{carried-is-remainder}
 use Rattle.rc4.proofs.Rearranged.{swap-rearranged, rearranged-small, rearranged-length}

@@ -1,5 +1,6 @@
 // The RC4 keystream: from the Rust source's rc4.rs, its `Keystream`. The source takes the cipher from a
-// library; this is written from document 01 and held against RFC 6229.
+// library; this is written from document 01, and `Keystream` is held against RFC 6229. Beside it `apply_key` and
+// `apply_halves`, which take keys and hand no table over.
 ghost use mathlib.Core.Path.{_≡_};
 ghost use mathlib.Core.Bool.{_&&_};
 ghost use Prim.Native.Nat.{ℕ, _+_, _%_, _^_, _≤_, _<_, min};
@@ -46,6 +47,7 @@ fn wide(x: u8) -> usize
     x as usize
 }
 
+// An entry of a table as an index.
 fn wide_entry(x: u32) -> usize
     ensures { λ r. ⌜ (r ≡ x) × (r < 2 ^ 32) ⌝ }
 {
@@ -70,7 +72,7 @@ fn unmixed(t: &mut [u32])
     }
 }
 
-// The entry at an index after a swap, of which one store went to j: what was loaded there before, unless it is j.
+// The entry at another index than i after the entries i and j swapped: what was loaded there before, unless it is j.
 fn after_swap(index: usize, j: usize, stored: u32, loaded: u32) -> u32
     ensures { λ r. ⌜ r ≡ pick (eqb index j) stored loaded ⌝ }
 {
@@ -129,8 +131,8 @@ fn mix_one(t: &mut [u32], key: &[u8])
     }
 }
 
-// Mixes one of two keys into each of two tables. The two run side by side, by two steps in each turn of the loop, which is
-// faster than by one.
+// Mixes one of two keys into each of two tables. The two run side by side. Two steps in each turn of the loop are faster
+// than one.
 fn mix_both(s: &mut [u32], t: &mut [u32], key: &[u8], other: &[u8])
     requires { ⌜ (now s ≡ identity) × (now t ≡ identity) × (0 < length (now key)) × (0 < length (now other)) ⌝ }
     ensures { λ _. ⌜ (now (s .exit) ≡ mixing (now (key .entry)) 256 .table) × (now (t .exit) ≡ mixing (now (other .entry)) 256 .table) ⌝ }
@@ -326,8 +328,8 @@ fn apply_both(s: &mut [u32], t: &mut [u32], src: &[u8], dst: &mut [u8])
     exclusive_or(src, h + h, dst);
 }
 
-// The bytes of src under the keystream of a key, into dst, as many as both have room for. Tells whether the key has 5 to
-// 16 bytes; dst stays as it is if not.
+// The bytes of src under the keystream of a key, into dst, as many as both have room for. Tells whether the key has 5
+// to 16 bytes; dst stays as it is if not.
 pub fn apply_key(key: &[u8], src: &[u8], dst: &mut [u8]) -> bool
     ensures { λ r. ⌜ r ≡ within 5 16 (length (now (key .entry))) ⌝ }
     ensures { λ r. ⌜ now (dst .exit) ≡ pick r (enciphered (keyed (now (key .entry))) (now (src .entry)) (now (dst .entry))) (now (dst .entry)) ⌝ }
@@ -346,7 +348,7 @@ pub fn apply_key(key: &[u8], src: &[u8], dst: &mut [u8]) -> bool
 
 // The first half of src under the keystream of one key and the second half under that of another, into dst: as many
 // bytes as both have room for, less one if that is odd. Tells whether both keys have 5 to 16 bytes; dst stays as it is
-// if not. The two run side by side, mixing and all, over tables that are handed to nobody.
+// if not. The two run side by side, mixing and all, over tables that stay its locals.
 pub fn apply_halves(key: &[u8], other: &[u8], src: &[u8], dst: &mut [u8]) -> bool
     ensures { λ r. ⌜ r ≡ within 5 16 (length (now (key .entry))) && within 5 16 (length (now (other .entry))) ⌝ }
     ensures { λ r. ⌜ now (dst .exit) ≡ pick r (encipheredHalves (keyed (now (key .entry))) (keyed (now (other .entry))) (now (src .entry)) (now (dst .entry))) (now (dst .entry)) ⌝ }

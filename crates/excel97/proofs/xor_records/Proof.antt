@@ -10,18 +10,18 @@ use Rattle.excel97.specs.Open.{xorByte}
 use Rattle.excel97.specs.Steps.{throughAt}
 use Rattle.excel97.proofs.Records.{Reached, reached-none, reached-on}
 use borrow.Author.Needs.{needs}
-use Rattle.excel97.proofs.Through.{Passed, passed-none, passed-record, passed-rest}
+use Rattle.excel97.proofs.Through.{WrittenUpTo, up-to-none, up-to-record, up-to-rest}
 use Rattle.excel97.proofs.xor_records.Statement.{statement}
 use Rattle.excel97.proofs.xor_records.Tie as tie
 
 abbrev Inv-loop : tie.InvT-loop
-Inv-loop way stream array output₀ at₀ output at = Reached stream at × Passed (throughAt stream (xorByte way array)) at (length stream) output₀ output
+Inv-loop way stream array output₀ at₀ output at = Reached stream at × WrittenUpTo (throughAt stream (xorByte way array)) at (length stream) output₀ output
 
 abbrev μ-loop : tie.MeasureT-loop
 μ-loop way stream array output₀ at₀ output at = length stream - at
 
 loop-holds : tie.Need-loop-holds Inv-loop μ-loop
-loop-holds c = (reached-none _, passed-none _ _ _)
+loop-holds c = (reached-none _, up-to-none _ _ _)
 
 xor-record-requires : tie.Need-xor-record-requires Inv-loop μ-loop
 xor-record-requires c κs =
@@ -54,7 +54,7 @@ loop-again c =
     let done = at-xor-record .xor-record .ensures in
     let e = sym (at-step-at .step-at .ensures) ∙ at-id .id .given .1 in (
       reached-on (args .stream .now) (loop .at) _ _ (loop .inv .0) e,
-      passed-record (args .stream .now) (xorByte (args .way) (args .array .now)) (loop .at) _ _ (loop .inv .0) e (args .output .now) (loop .output) _ _ (done .0)
+      up-to-record (args .stream .now) (xorByte (args .way) (args .array .now)) (loop .at) _ _ (loop .inv .0) e (args .output .now) (loop .output) _ _ (done .0)
           (done .1) (loop .inv .1) (done .2),
     )
 
@@ -83,7 +83,7 @@ returns c =
     let loop = at-loop .loop in
     let start = at-loop .before .before .before in
     let fault = sym (at-step-at .step-at .ensures) ∙ at-enum-told .enum-told .given .1 in
-    passed-rest (start .args .stream .now) (xorByte (start .args .way) (start .args .array .now)) (loop .at) (loop .inv .0)
+    up-to-rest (start .args .stream .now) (xorByte (start .args .way) (start .args .array .now)) (loop .at) (loop .inv .0)
     (records-fault (start .args .stream .now) (loop .at) _ fault) (start .args .output .now) (loop .output) _ (loop .inv .1) (at-copy .copy .ensures)
 
 copy-requires-2 : tie.Need-copy-requires-2 Inv-loop μ-loop
@@ -111,7 +111,7 @@ returns-2 c =
     let loop = at-loop .loop in
     let start = at-loop .before .before .before in
     let end = sym (at-step-at .step-at .ensures) ∙ at-enum-told .enum-told2 .given .1 in
-    passed-rest (start .args .stream .now) (xorByte (start .args .way) (start .args .array .now)) (loop .at) (loop .inv .0)
+    up-to-rest (start .args .stream .now) (xorByte (start .args .way) (start .args .array .now)) (loop .at) (loop .inv .0)
     (records-end (start .args .stream .now) (loop .at) end) (start .args .output .now) (loop .output) _ (loop .inv .1) (at-copy .copy2 .ensures)
 
 pub xor-records-spec : {M : Type 1} → statement M

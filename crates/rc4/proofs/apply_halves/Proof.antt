@@ -6,7 +6,7 @@ use mathlib.Core.Bool.{true, false}
 use native.Mathlib.Omega.{arith}
 use borrow.Author.Tests.{not-true, not-false}
 use lib.ListN.{length}
-use Rattle.laws.specs.Choice.{pick, within}
+use Rattle.laws.specs.Choice.{within}
 use Rattle.laws.proofs.Choice.{stop, skip}
 use Rattle.rc4.proofs.Halves.{halves-keyed}
 use Rattle.rc4.proofs.Rearranged.{mixing-rearranged}

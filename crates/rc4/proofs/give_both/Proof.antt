@@ -4,8 +4,8 @@
 use borrow.Author.Needs.{needs}
 use mathlib.Core.Path.{_≡_, refl, sym, _∙_}
 use native.Mathlib.Omega.{arith}
-use Prim.Native.Nat.{ℕ, _+_, _≤_, _<_, _-_, _%_}
-use lib.ListN.{length, getD, length-set}
+use Prim.Native.Nat.{_+_, _≤_, _-_, _%_}
+use lib.ListN.{length-set}
 use Rattle.rc4.specs.declared.Keystream.{Keystream}
 use Rattle.rc4.specs.Steps.{givenHalves}
 use Rattle.rc4.proofs.Halves.{Sides, sides-none, sides-more, sides-all, first-half, second-half}

@@ -3,8 +3,7 @@
 use borrow.Author.Needs.{needs}
 use mathlib.Core.Path.{_≡_, refl, sym, _∙_}
 use native.Mathlib.Omega.{arith}
-use Prim.Native.Nat.{ℕ, _+_, _≤_, _<_, _-_, _%_}
-use lib.ListN.{length, getD}
+use Prim.Native.Nat.{_+_, _≤_, _-_, _%_}
 use Rattle.laws.proofs.Written.{Written, written-none, written-more}
 use Rattle.rc4.specs.declared.Keystream.{Keystream}
 use Rattle.rc4.specs.Rc4.{byteFrom}
