@@ -20,7 +20,7 @@ pub enum Field32 {
     Short,
 }
 
-// What stands at an offset of a stream: a record, by its id and length; a fault, by its place; the end.
+// What is at an offset of a stream: a record, by its id and length; a fault, by its place; the end.
 pub enum Step {
     Record(u16, u16),
     Fault(usize),
@@ -51,7 +51,7 @@ pub enum KeySize {
     NoSize,
 }
 
-// What a FILEPASS body tells of the lock.
+// What a FILEPASS body says about the lock.
 pub struct Facts {
     pub xor: bool,
     pub version: Version,
@@ -98,7 +98,7 @@ pub fn le32(s: &[u8], at: usize) -> Field32
     Field32::Value(word::from_le_bytes(s[at], s[at + 1], s[at + 2], s[at + 3]))
 }
 
-// What stands at an offset with fewer than four bytes left: the end where all of them are zero, else a fault.
+// What is at an offset with fewer than four bytes left: the end where all of them are zero, else a fault.
 fn rest_at(s: &[u8], at: usize) -> Step
     requires { ⌜ length (now s) < at + 4 ⌝ }
     ensures { λ r. ⌜ r ≡ stepAt (now (s .entry)) at ⌝ }
@@ -113,7 +113,7 @@ fn rest_at(s: &[u8], at: usize) -> Step
     Step::End
 }
 
-// What stands at an offset: a header cut short, or a body past the end, is a fault at the header's offset; padding is
+// What is at an offset: a header cut short, or a body past the end, is a fault at the header's offset; padding is
 // the end.
 pub fn step_at(s: &[u8], at: usize) -> Step
     ensures { λ r. ⌜ r ≡ stepAt (now (s .entry)) at ⌝ }
@@ -131,7 +131,7 @@ pub fn step_at(s: &[u8], at: usize) -> Step
     }
 }
 
-// Where the next header stands, by what was found at an offset; where there is no record, the offset itself.
+// Where the next header is, by what was found at an offset; where there is no record, the offset itself.
 fn next_of(at: usize, found: Step) -> usize
     requires { ⌜ nextOf at found < 2 ^ 64 ⌝ }
     ensures { λ r. ⌜ r ≡ nextOf at found ⌝ }
@@ -255,7 +255,7 @@ fn size_of(body: &[u8], version: Version) -> KeySize
     }
 }
 
-// What a FILEPASS body tells of the lock.
+// What a FILEPASS body says about the lock.
 fn facts_of(body: &[u8]) -> Facts
     ensures { λ r. ⌜ r ≡ factsOf (now (body .entry)) ⌝ }
 {
@@ -325,7 +325,7 @@ fn scan(book: &[u8]) -> Verdict
     verdict
 }
 
-// Whether a book is locked, by its first bytes up to the cap, and what its lock tells.
+// Whether a book is locked, by its first bytes up to the cap, and the facts of its lock.
 pub fn look(stream: &[u8]) -> Verdict
     ensures { λ r. ⌜ r ≡ look (now (stream .entry)) ⌝ }
 {
@@ -374,7 +374,7 @@ fn same_size(a: KeySize, b: KeySize) -> bool
     }
 }
 
-// Whether two locks tell the same.
+// Whether two locks have the same facts.
 fn same_facts(f: Facts, g: Facts) -> bool
     ensures { λ r. ⌜ r ≡ sameFacts f g ⌝ }
 {
@@ -400,7 +400,7 @@ fn same_verdict(v: Verdict, w: Verdict) -> bool
     }
 }
 
-// Whether two books have the same lock, as far as Look tells.
+// Whether two books have the same lock, as far as Look reports.
 pub fn same_lock(a: &[u8], b: &[u8]) -> bool
     ensures { λ r. ⌜ r ≡ sameLock (now (a .entry)) (now (b .entry)) ⌝ }
 {
@@ -414,7 +414,7 @@ pub struct BiffRecords<'a> {
     pub pos: usize,
 }
 
-// A step of the walker: the stream and the position behind what was found, of which `biff_records` makes
+// A step of the walker: the stream and the position after what was found, from which `biff_records` makes
 // the walker that goes on, and what was found.
 pub struct Stepped<'a> {
     pub book: &'a [u8],
@@ -422,7 +422,7 @@ pub struct Stepped<'a> {
     pub found: Step,
 }
 
-// What stands at an offset, and where the next header stands; where there is no record, the offset itself.
+// What is at an offset, and where the next header is; where there is no record, the offset itself.
 pub struct Reached {
     pub found: Step,
     pub next: usize,
@@ -435,7 +435,7 @@ pub fn biff_records<'a>(book: &'a [u8], pos: usize) -> BiffRecords<'a>
     BiffRecords { book, pos }
 }
 
-// What stands at the walker's position, and the walker behind it. At a fault and at the end it stays.
+// What is at the walker's position, and the next walker. At a fault and at the end it stays.
 pub fn next<'a>(r: BiffRecords<'a>) -> Stepped<'a>
     ensures { λ s. ⌜ (s .book ≡ r .entry .book) × (s .pos ≡ nextAt (now (r .entry .book)) (r .entry .pos)) × (s .found ≡ stepAt (now (r .entry .book)) (r .entry .pos)) ⌝ }
 {

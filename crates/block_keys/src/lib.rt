@@ -30,8 +30,8 @@ pub struct Schedule {
     pub digest: [u8; 20],
 }
 
-// What a structure tells of its lock: the family, the key size, whether the summary is sealed, and where salt,
-// verifier and verifier hash stand.
+// What a structure says of its lock: the family, the key size, whether the summary is sealed, and where salt,
+// verifier and verifier hash are.
 pub struct Rc4Lock {
     pub kind: Kind,
     pub key_bits: u32,
@@ -106,7 +106,7 @@ pub fn scheme_of(structure: &[u8]) -> Scheme
     }
 }
 
-// The byte i places behind an offset of a structure, 0 past its end.
+// The byte i places after an offset of a structure, 0 past its end.
 fn byte_at(structure: &[u8], at: usize, i: usize) -> u8
     ensures { λ r. ⌜ r ≡ getD (now (structure .entry)) (at + i) 0 ⌝ }
 {
@@ -156,7 +156,7 @@ struct Digest {
     bytes: [u8; 20],
 }
 
-// Five bytes, with zeros behind them.
+// Five bytes, followed by zeros.
 fn widened(h: [u8; 5]) -> [u8; 20]
     ensures { λ r. ⌜ r ≡ h ++ replicate 15 0 ⌝ }
 {
@@ -314,7 +314,7 @@ pub fn verify_password(schedule: Schedule, verifier: [u8; 16], hash: [u8; 20]) -
     }
 }
 
-// The password check of a lock, whose verifier and hash stand in its structure.
+// The password check of a lock, whose verifier and hash are in its structure.
 pub fn verify(structure: &[u8], lock: Rc4Lock, schedule: Schedule) -> bool
     ensures { λ r. ⌜ r ≡ verified schedule (part (now (structure .entry)) (lock .verifier) 16) (part (now (structure .entry)) (lock .hash) 20) ⌝ }
 {
@@ -325,7 +325,7 @@ pub fn verify(structure: &[u8], lock: Rc4Lock, schedule: Schedule) -> bool
     verify_password(schedule, verifier, hash)
 }
 
-// What a structure holds of a verifier: a digest of 16 bytes has zeros behind it.
+// What a structure holds of a verifier: a digest of 16 bytes is followed by zeros.
 pub struct EncryptedVerifier {
     pub verifier: [u8; 16],
     pub hash: [u8; 20],
@@ -366,7 +366,7 @@ fn least(a: usize, b: usize) -> usize
     if a < b { a } else { b }
 }
 
-// The key of a block by its number, of which the key takes 32 bits.
+// The key of a block by its number, of which the key uses 32 bits.
 fn key_of(schedule: Schedule, block: usize) -> sensitive::DerivedKey
     ensures { λ r. ⌜ r ≡ derived (blockKey schedule block) ⌝ }
 {
@@ -418,7 +418,7 @@ fn decrypt_pair(
     );
 }
 
-// Deciphers as many pairs of whole blocks as the first n bytes have, and tells how many blocks that were.
+// Deciphers as many pairs of whole blocks as the first n bytes have, and returns how many that was.
 fn decrypt_pairs(schedule: Schedule, size: usize, n: usize, src: &[u8], dst: &mut [u8]) -> usize
     requires { ⌜ (1 ≤ size) × (n ≤ length (now src)) × (n ≤ length (now dst)) ⌝ }
     ensures { λ r. ⌜ (r * size ≤ n) × Written (decipheredAt size (blockKey schedule) (now (src .entry))) 0 (r * size) (now (dst .entry)) (now (dst .exit)) ⌝ }
@@ -433,7 +433,7 @@ fn decrypt_pairs(schedule: Schedule, size: usize, n: usize, src: &[u8], dst: &mu
     block
 }
 
-// Deciphers the blocks from a number on, one after the other, up to the n-th byte, and tells how many blocks there are
+// Deciphers the blocks from a number on, one by one, up to the n-th byte, and returns how many blocks there are
 // up to there, the ones before that number too.
 fn decrypt_rest(
     schedule: Schedule,

@@ -1,4 +1,4 @@
-// Asks for the directory of each stream in its data, through the C export, at each place that stands beside it, and prints
+// Asks for the directory of each stream in its data, through the C export, at each place that goes with it, and prints
 // the answer and all eight facts. tools/make_directories.py makes the data and what is expected.
 use libc::STDOUT_FILENO;
 use samples::number;
@@ -55,7 +55,7 @@ fn ask_all(name: &[u8], stream: &[u8], places: &[u8]) {
     }
 }
 
-// Runs all cases: name, stream and places, each behind its length; each place is a case.
+// Runs all cases: name, stream and places, each after its length; each place is a case.
 fn run_all(data: &[u8]) {
     let mut cases: u64 = 0;
     let mut at: usize = 0;

@@ -20,7 +20,7 @@ pub enum Start {
     Nothing,
 }
 
-// What is told of a stream's sheets: how many there are, and the start of the one that was asked for.
+// What is reported of a stream's sheets: how many there are, and the start of the one that was asked for.
 pub struct Sheets {
     pub count: usize,
     pub start: Start,
@@ -118,7 +118,7 @@ fn tally_records(stream: &[u8]) -> Tally
     }
 }
 
-// The offset that question 29 tells, of a stream of so many bytes whose BOF and EOF pair up as given.
+// The offset in refusal 29, for a stream of so many bytes whose BOF and EOF pair up as given.
 fn unpaired(pairing: Pairing, size: usize) -> Found
     ensures { λ r. ⌜ r ≡ foundOf (unpairedBy size pairing []) ⌝ }
 {
@@ -165,7 +165,7 @@ fn start_of(stream: &[u8], body: usize) -> usize
     ) as usize
 }
 
-// Where a search for an offset begins: at a header that is not behind it, or at the front.
+// Where a search for an offset begins: at a header that is not past it, or at the front.
 fn begin(from: usize, offset: usize) -> usize
     ensures { λ r. ⌜ r ≡ pick (leb from offset) from 0 ⌝ }
 {
@@ -219,7 +219,7 @@ fn find_unfit(stream: &[u8], sheets: usize) -> Found
     Found::Nowhere
 }
 
-// The start of the sheet at a place below the count; 0 from the count on, which `sheet_at` tells from a start of 0.
+// The start of the sheet at a place below the count; 0 from the count on, where `sheet_at` does not use it.
 fn start_at(stream: &[u8], place: usize) -> usize
     requires { ⌜ none ≡ unfit (now stream) (walk (now stream) .records) (boundSheets (walk (now stream) .records)) ⌝ }
     ensures { λ r. ⌜ r ≡ getD (starts (now (stream .entry)) (boundSheets (walk (now (stream .entry)) .records))) place 0 ⌝ }

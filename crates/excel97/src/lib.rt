@@ -28,7 +28,7 @@ pub enum Lock {
     CryptoApi,
 }
 
-// What is told of a stream that was opened.
+// What is reported of a stream that was opened.
 pub struct Report {
     pub records: usize,
     pub lock: Lock,
@@ -39,7 +39,7 @@ pub struct Report {
     pub block_keys: usize,
 }
 
-// What came of opening a stream.
+// The result of opening a stream.
 pub enum Answer {
     Opened(Report),
     Refused(file_params::Refusal),
@@ -79,7 +79,7 @@ fn copy(src: &[u8], from: usize, to: usize, dst: &mut [u8])
     }
 }
 
-// Copies the four bytes of a header to the same places of dst. All are loaded ahead of the stores, so that LLVM copies
+// Copies the four bytes of a header to the same places of dst. All are loaded before the stores, so that LLVM copies
 // them at once.
 fn copy_header(src: &[u8], at: usize, dst: &mut [u8])
     requires { ⌜ (at + 4 ≤ length (now src)) × (at + 4 ≤ length (now dst)) ⌝ }
@@ -95,7 +95,7 @@ fn copy_header(src: &[u8], at: usize, dst: &mut [u8])
     dst[at + 3] = d;
 }
 
-// Copies a record's header and the clear part behind it to the same places of dst.
+// Copies a record's header and the clear part after it to the same places of dst.
 fn copy_clear(src: &[u8], at: usize, clear: usize, dst: &mut [u8])
     requires { ⌜ (at + 4 + clear ≤ length (now src)) × (at + 4 + clear ≤ length (now dst)) ⌝ }
     ensures { λ _. ⌜ Written (λ (o : ℕ). getD (now (src .entry)) o 0) at (at + 4 + clear) (now (dst .entry)) (now (dst .exit)) ⌝ }
@@ -196,7 +196,7 @@ fn far_enough(start: usize, end: usize, stream: usize) -> usize
     start + 16
 }
 
-// Puts one record through XOR, and what follows it up to where the answer says, by the record's own index: header and
+// Puts one record through XOR, and what follows it up to where the result says, by the record's own index: header and
 // clear part are the stream's own.
 fn xor_record(
     way: xor_obfuscation::Way,
@@ -225,8 +225,8 @@ fn xor_record(
     to
 }
 
-// Puts a stream through XOR, record by record; what lies behind the records is the stream's own. What is written behind
-// a short record is written again by what comes behind it.
+// Puts a stream through XOR, record by record; what lies after the records is the stream's own. What is written past
+// a short record is overwritten by what follows it.
 fn xor_records(way: xor_obfuscation::Way, stream: &[u8], array: &[u8; 16], output: &mut [u8])
     requires { ⌜ length (now stream) ≤ length (now output) ⌝ }
     ensures { λ _. ⌜ Written (throughAt (now (stream .entry)) (xorByte way (now (array .entry)))) 0 (length (now (stream .entry))) (now (output .entry)) (now (output .exit)) ⌝ }
@@ -250,7 +250,7 @@ fn xor_records(way: xor_obfuscation::Way, stream: &[u8], array: &[u8; 16], outpu
     }
 }
 
-// Puts the headers, the clear parts and what lies behind the records back into a stream whose every byte was enciphered
+// Puts the headers, the clear parts and what lies after the records back into a stream whose every byte was enciphered
 // or deciphered.
 fn restore(stream: &[u8], output: &mut [u8])
     requires { ⌜ length (now stream) ≤ length (now output) ⌝ }
@@ -289,7 +289,7 @@ pub fn apply_xor(way: xor_obfuscation::Way, stream: &[u8], array: &[u8; 16], out
 }
 
 // Puts the enciphered bytes of a stream through RC4 into an output, by the keys of a schedule; the others are copied.
-// Tells how many block keys were derived. An output that is too short stays as it is.
+// Returns how many block keys were derived. An output that is too short stays as it is.
 pub fn apply_rc4(stream: &[u8], schedule: block_keys::Schedule, output: &mut [u8]) -> usize
     ensures { λ r. ⌜ ThroughRc4 (now (stream .entry)) schedule (now (output .entry)) r (now (output .exit)) ⌝ }
 {

@@ -4,7 +4,7 @@
 ghost use mathlib.Core.Path.{_≡_};
 ghost use Rattle.file_params.specs.Refusal.{number, first, second};
 
-// Why a workbook stream is refused, with what the documents tell beside the number.
+// Why a workbook stream is refused, with the details that go with the number.
 pub enum Refusal {
     PasswordTooLong,
     PasswordMalformed,

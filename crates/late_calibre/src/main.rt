@@ -1,5 +1,5 @@
 // Opens sheets with a table of calibres, one under each lock, and prints the lift angle of the last calibre, whose record
-// stands past the first kilobyte, with what opening took; with another password it prints the refusal and no figure.
+// is past the first kilobyte, with what opening took; with another password it prints the refusal and no figure.
 // tools/make_late_calibre.py makes the data and what is expected.
 use libc::STDOUT_FILENO;
 use samples::number;
@@ -89,7 +89,7 @@ fn measure(password: &[u8], stream: &[u8]) {
     io::write_all(STDOUT_FILENO, b"\n");
 }
 
-// Goes through all sheets: heading, password and stream, each behind its length.
+// Goes through all sheets: heading, password and stream, each after its length.
 fn measure_all(data: &[u8]) {
     let mut at: usize = 0;
     while at < data.len() {

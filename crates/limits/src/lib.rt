@@ -1,7 +1,7 @@
 // The bounds of the Rust source's limits.rs that the Excel stream part uses, under its names; its range
 // RC4_KEY_BITS is two numbers here, and RC4_ENCRYPTION_HEADER_SIZE_MIN is rc4_cryptoapi.rs's HEADER_FIXED_LEN. Two more
 // are of the customer's documents: PASSWORD_MAX_LEN (01) and SCRATCH_LEN (02, T-06). The tests of a header's size and of
-// a key size stand beside their bounds, so that a wrong bound is refused here.
+// a key size are next to their bounds, so that a wrong bound is refused here.
 ghost use mathlib.Core.Path.{_≡_};
 ghost use mathlib.Core.Bool.{_&&_, _||_};
 ghost use Prim.Native.Nat.{_%_};
@@ -34,7 +34,7 @@ pub const PASSWORD_MAX_LEN: usize = 1024;
 
 pub const SCRATCH_LEN: usize = 64;
 
-// An encryption header's size that is taken: document 01's question 16.
+// An encryption header's size that is accepted: document 01's question 16.
 pub fn size_fits(size: u32) -> bool
     ensures { λ r. ⌜ r ≡ within 32 1024 size ⌝ }
 {
@@ -49,7 +49,7 @@ pub fn key_size_stated(bits: u32) -> bool
     (RC4_KEY_BITS_MIN <= bits) & (bits <= RC4_KEY_BITS_MAX) & (bits % 8 == 0)
 }
 
-// A key size in bits that is taken: document 01's question 23, which takes 0 too.
+// A key size in bits that is accepted: document 01's question 23, which accepts 0 too.
 pub fn key_size_fits(bits: u32) -> bool
     ensures { λ r. ⌜ r ≡ (eqb bits 0 || (within 40 128 bits && eqb (bits % 8) 0)) ⌝ }
 {

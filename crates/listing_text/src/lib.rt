@@ -8,7 +8,7 @@ ghost use Rattle.binary_office.specs.Walk.{BiffRecord, walk};
 ghost use Rattle.listing_text.specs.Text.{decimal, placed, hexDigit, hex4, line, unreadable, ofWalk, text, Puts};
 use binary_office::Step;
 
-// Writes a byte at an offset, if there is room, and answers the offset behind it.
+// Writes a byte at an offset, if there is room, and returns the next offset.
 fn put(out: &mut [u8], n: usize, b: u8) -> usize
     requires { ⌜ n < 2 ^ 63 ⌝ }
     ensures { λ r. ⌜ Puts (b ∷ []) n (now (out .entry)) r (now (out .exit)) ⌝ }
@@ -111,7 +111,7 @@ fn put_fault(out: &mut [u8], n: usize, place: usize) -> usize
     put(out, n, 10)
 }
 
-// Writes the lines of a stream of at most 32,768 bytes, behind the header.
+// Writes the lines of a stream of at most 32,768 bytes, after the header.
 fn put_walk(out: &mut [u8], n: usize, stream: &[u8]) -> usize
     requires { ⌜ (n ≤ 32) × (length (now stream) ≤ 32768) ⌝ }
     ensures { λ r. ⌜ Puts (ofWalk (walk (now (stream .entry)))) n (now (out .entry)) r (now (out .exit)) ⌝ }
@@ -132,7 +132,7 @@ fn put_walk(out: &mut [u8], n: usize, stream: &[u8]) -> usize
     }
 }
 
-// Writes the listing of a stream to the start of a buffer, as far as there is room, and answers how long it is.
+// Writes the listing of a stream to the start of a buffer, as far as there is room, and returns how long it is.
 pub fn listing(stream: &[u8], out: &mut [u8]) -> usize
     ensures { λ r. ⌜ Puts (text (now (stream .entry))) 0 (now (out .entry)) r (now (out .exit)) ⌝ }
 {

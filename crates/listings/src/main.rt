@@ -1,5 +1,5 @@
-// Prints the listings of the streams in its data, one after the other, each behind a line that numbers it
-// and tells its length. tools/make_listings.py makes the data and what is expected.
+// Prints the listings of the streams in its data, one after the other, each preceded by a line that numbers it
+// and gives its length. tools/make_listings.py makes the data and what is expected.
 use libc::STDOUT_FILENO;
 ghost use mathlib.Core.Path.{_≡_};
 ghost use lib.ListN.{length};
@@ -28,7 +28,7 @@ fn announce(number: u64, len: usize) {
     io::write_all(STDOUT_FILENO, b" bytes\n");
 }
 
-// Writes the listings of all streams: each stands behind its length of four bytes.
+// Writes the listings of all streams: each comes after its length of four bytes.
 fn list_all(all: &[u8]) {
     let mut number: u64 = 1;
     let mut at: usize = 0;

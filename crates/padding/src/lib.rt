@@ -13,7 +13,7 @@ pub struct Tail {
     pub len: usize,
 }
 
-// The bytes of m behind its whole blocks, with zeros behind them.
+// The bytes of m after its whole blocks, followed by zeros.
 fn rest(m: &[u8]) -> [u8; 128]
     ensures { λ r. ⌜ r ≡ paste (replicate 128 0) 0 (drop (length (now (m .entry)) - length (now (m .entry)) % 64) (now (m .entry))) (length (now (m .entry)) % 64) ⌝ }
 {
@@ -42,7 +42,7 @@ fn put_size(mut bytes: [u8; 128], at: usize, size: [u8; 8]) -> [u8; 128]
     bytes
 }
 
-// Where the length's bytes end: with the block, or with one block more if 56 bytes or more stand in it.
+// Where the length's bytes end: with the block, or with one more block if it has 56 bytes or more.
 fn tail_len(k: usize) -> usize
     requires { ⌜ k < 64 ⌝ }
     ensures { λ r. ⌜ r ≡ k + 1 + (119 - k) % 64 + 8 ⌝ }
@@ -50,7 +50,7 @@ fn tail_len(k: usize) -> usize
     if k < 56 { 64 } else { 128 }
 }
 
-// The end of the padded message m, whose length is told in the eight bytes of size.
+// The end of the padded message m, whose length is in the eight bytes of size.
 pub fn pad(m: &[u8], size: [u8; 8]) -> Tail
     ensures { λ r. ⌜ r ≡ tailOf (now (m .entry)) size ⌝ }
 {

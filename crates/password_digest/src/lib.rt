@@ -28,14 +28,14 @@ pub struct Md5Digest {
     pub bytes: [u8; 16],
 }
 
-// The next byte of a text in UTF-16LE and the place behind it, an offset of the text and how many bytes
+// The next byte of a text in UTF-16LE and the next place, an offset of the text and how many bytes
 // of the character there are out; or that the text ends.
 enum Step {
     Byte(u8, usize, usize),
     Done,
 }
 
-// A place of the text, and how many bytes stand in the block.
+// A place of the text, and how many bytes are in the block.
 struct Filled {
     at: usize,
     skip: usize,
@@ -105,7 +105,7 @@ fn put_salt(salt: [u8; 16], block: &mut [u8])
     }
 }
 
-// SHA-1 of the salt and a text in UTF-16LE, through a block; total is the number of bytes that is told at the end.
+// SHA-1 of the salt and a text in UTF-16LE, through a block; total is the number of bytes that is stated at the end.
 fn sha1_text(salt: [u8; 16], text: &[u8], block: &mut [u8], total: u64) -> [u8; 20]
     requires { ⌜ length (now block) ≡ 64 ⌝ }
     ensures { λ r. ⌜ ((e : List ℕ) → encoded (now (text .entry)) ≡ some e → r ≡ sha1.output (hashEnd sha1.compressed be64 sha1.start (salt ++ e) total)) ⌝ }
@@ -121,7 +121,7 @@ fn sha1_text(salt: [u8; 16], text: &[u8], block: &mut [u8], total: u64) -> [u8; 
     sha1::finish(h, &block[..n], total)
 }
 
-// MD5 of a text in UTF-16LE, through a block; total is the number of bytes that is told at the end.
+// MD5 of a text in UTF-16LE, through a block; total is the number of bytes that is stated at the end.
 fn md5_text(text: &[u8], block: &mut [u8], total: u64) -> [u8; 16]
     requires { ⌜ length (now block) ≡ 64 ⌝ }
     ensures { λ r. ⌜ ((e : List ℕ) → encoded (now (text .entry)) ≡ some e → r ≡ md5.output (hashEnd md5.compressed le64 md5.start e total)) ⌝ }

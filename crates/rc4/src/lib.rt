@@ -1,5 +1,5 @@
 // The RC4 keystream: from the Rust source's rc4.rs, its `Keystream`. The source takes the cipher from a
-// library; this is written from document 01, and `Keystream` is held against RFC 6229. Beside it `apply_key` and
+// library; this is written from document 01, and `Keystream` is tested against RFC 6229. Beside it `apply_key` and
 // `apply_halves`, which take keys and hand no table over.
 ghost use mathlib.Core.Path.{_≡_};
 ghost use mathlib.Core.Bool.{_&&_};
@@ -88,7 +88,7 @@ fn following_index(index: usize, len: usize) -> usize
 }
 
 // A step of the key mixing: j gains entry i and the key byte at the carried index, and the entries i and j swap. The
-// entry at the next i is loaded ahead of the two stores, so that it need not wait for them.
+// entry at the next i is loaded before the two stores, so that it need not wait for them.
 fn mix(t: &mut [u32], key: &[u8], i: usize, at: Mixed) -> Mixed
     requires { ⌜ (i < 256) × MixedTo (now key) i at (now t) ⌝ }
     ensures { λ r. ⌜ MixedTo (now (key .entry)) (i + 1) r (now (t .exit)) ⌝ }
@@ -107,7 +107,7 @@ fn mix(t: &mut [u32], key: &[u8], i: usize, at: Mixed) -> Mixed
     }
 }
 
-// What the first step of a key's mixing is handed: j and the key index at 0, and entry 0, which is 0.
+// What the first step of a key's mixing is given: j and the key index at 0, and entry 0, which is 0.
 fn unstarted() -> Mixed
     ensures { λ r. ⌜ r ≡ record { j = 0; index = 0; entry = 0 } ⌝ }
 {
@@ -183,7 +183,7 @@ fn table_of(key: &[u8]) -> [u8; 256]
     narrowed(&t)
 }
 
-// The answer with a keystream that starts with a table, both indices at 0.
+// The result with a keystream that starts with a table, both indices at 0.
 fn started(ok: bool, table: [u8; 256]) -> Made
     ensures { λ r. ⌜ r ≡ record { ok = ok; keystream = record { table = table; i = 0; j = 0 } } ⌝ }
 {
@@ -207,7 +207,7 @@ impl Keystream {
     }
 
     // The bytes of src, exclusive-or the keystream, into dst, as many as both have room for. Gives
-    // back the keystream that goes on behind them.
+    // back the keystream that continues after them.
     pub fn apply(self, src: &[u8], dst: &mut [u8]) -> Keystream
         ensures { λ r. ⌜ Applies self (now (src .entry)) (now (dst .entry)) r (now (dst .exit)) ⌝ }
     {
@@ -236,7 +236,7 @@ impl Keystream {
 }
 
 // A step of a keystream: j gains entry i, the entries i and j swap, and the entry at the sum of the two is the byte.
-// The entry at the next i is loaded ahead of the two stores, so that it need not wait for them.
+// The entry at the next i is loaded before the two stores, so that it need not wait for them.
 fn step(t: &mut [u32], i: usize, next: usize, at: Stepped) -> Stepped
     requires { ⌜ (length (now t) ≡ 256) × (i < 256) × (next ≡ (i + 1) % 256) × (at .j < 256) × (at .entry ≡ getD (now t) i 0) ⌝ }
     ensures { λ r. ⌜ StepsTo (now (t .entry)) i next at r (now (t .exit)) ⌝ }
@@ -274,7 +274,7 @@ fn give_one(t: &mut [u32], n: usize, dst: &mut [u8])
     }
 }
 
-// Writes the first h bytes of the keystreams of two tables to dst, those of the second behind those of the first. The
+// Writes the first h bytes of the keystreams of two tables to dst, those of the second after those of the first. The
 // two run side by side.
 fn give_both(s: &mut [u32], t: &mut [u32], h: usize, dst: &mut [u8])
     requires { ⌜ Rearranged (now s) × Rearranged (now t) × (h + h ≤ length (now dst)) ⌝ }

@@ -13,7 +13,7 @@ ghost use Rattle.sensitive.specs.Derived.{derived};
 ghost use Rattle.rc4_cryptoapi.specs.Keys.{hfinal, blockKey};
 ghost use Rattle.rc4_cryptoapi.specs.Parse.{parsed};
 
-// The structure's version, flags and header size; the fields of the verifier, all told.
+// The structure's version, flags and header size; the fields of the verifier, in all.
 const PREFIX_LEN: usize = 12;
 
 const VERIFIER_LEN: usize = 60;
@@ -32,7 +32,7 @@ const FLAG_EXTERNAL: u32 = 0x10;
 
 const FLAG_AES: u32 = 0x20;
 
-// What a structure tells: the key size in bits, the flags, and where salt, verifier and its hash start.
+// What a structure says: the key size in bits, the flags, and where salt, verifier and its hash start.
 pub struct CryptoApiHeader {
     pub key_bits: u32,
     pub flags: u32,
@@ -180,7 +180,7 @@ fn final_hash(h0: [u8; 20], block: u32) -> [u8; 20]
     sha1::digest(&m)
 }
 
-// The first n bytes of a hash, with zeros behind them.
+// The first n bytes of a hash, followed by zeros.
 fn head(hash: [u8; 20], n: usize) -> [u8; 16]
     requires { ⌜ n ≤ 16 ⌝ }
     ensures { λ r. ⌜ r ≡ take n hash ++ replicate (16 - n) 0 ⌝ }

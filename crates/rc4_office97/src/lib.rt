@@ -9,7 +9,7 @@ ghost use Rattle.rc4_office97.specs.Parse.{parsed};
 // The whole structure: version, salt, verifier, verifier hash.
 const HEADER_LEN: usize = 52;
 
-// What came of reading a structure: its fields stand at fixed places, so there is nothing more to tell.
+// The result of reading a structure: its fields are at fixed places, so there is no more to report.
 pub enum Parsed {
     Header,
     Refused(file_params::Refusal),

@@ -1,7 +1,7 @@
 // Runs a sample of the Rust source's own answers through the C exports: Look's verdict, Open's answer and every byte of
 // the plain stream, with the scratch and the rest of the output as they must be left; and the forecast of each stream. Prints
 // how many cases had each outcome, in how many Look's key size is judged by MS-OFFCRYPTO 2.3.5.1 and not by the Rust, in how
-// many the stream is padded and so judged by request T-05, how many forecasts are no refusal, and how many cases differ.
+// many the stream is padded and so judged by request T-05, how many forecasts refuse nothing, and how many cases differ.
 // oracle/README.md says how the sample is made.
 use libc::STDOUT_FILENO;
 use samples::lent_byte;
@@ -25,7 +25,7 @@ struct Ran {
     same: bool,
 }
 
-// What came of a forecast: whether it is no refusal, and whether it is as it must be.
+// The result of a forecast: whether it refuses nothing, and whether it is as it must be.
 struct Foretold {
     told: bool,
     same: bool,
@@ -155,8 +155,8 @@ fn run(password: &[u8], stream: &[u8], want: &[u8]) -> Ran {
     run_lent(password, stream, want, &mut scratch, &mut output)
 }
 
-// How many cases had each outcome, 0 for a stream that opens and else the refusal's number; behind them, how many differ, in
-// how many Look's key size is judged by the standard, in how many the forecast is no refusal, and in how many the stream is
+// How many cases had each outcome, 0 for a stream that opens and else the refusal's number; after them, how many differ, in
+// how many Look's key size is judged by the standard, how many forecasts refuse nothing, and in how many the stream is
 // padded.
 const KINDS: usize = 32;
 
@@ -183,7 +183,7 @@ fn count_case(counts: &mut [u64; KINDS], ran: Ran, foretold: Foretold) {
     }
 }
 
-// Runs the cases of a part of the data: password, stream and what is wanted, each behind its length.
+// Runs the cases of a part of the data: password, stream and what is expected, each after its length.
 fn run_all(data: &[u8], counts: &mut [u64; KINDS]) {
     let mut at: usize = 0;
     while at < data.len() {

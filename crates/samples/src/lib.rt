@@ -92,7 +92,7 @@ pub fn load(path: &[u8], buffer: &mut [u8]) -> Loaded
     loaded
 }
 
-// Reads a file into a buffer, as far as there is room, and tells how many bytes: none where it can't be read.
+// Reads a file into a buffer, as far as there is room, and returns how many bytes: none where it can't be read.
 pub fn read(path: &[u8], buffer: &mut [u8]) -> usize
     ensures { λ r. ⌜ r ≤ length (now (buffer .entry)) ⌝ }
 {

@@ -303,7 +303,7 @@ fn encipher(
     }
 }
 
-// Seals a stream under 1.1, in the zero record at an offset. Tells how many block keys were derived.
+// Seals a stream under 1.1, in the zero record at an offset. Returns how many block keys were derived.
 fn lock_office97(
     plain: &[u8],
     at: usize,
@@ -332,7 +332,7 @@ fn lock_office97(
     made.keys
 }
 
-// Seals a stream under CryptoAPI, in the zero record of so many bytes at an offset. Tells how many block keys were
+// Seals a stream under CryptoAPI, in the zero record of so many bytes at an offset. Returns how many block keys were
 // derived.
 fn lock_crypto_api(
     plain: &[u8],

@@ -308,7 +308,7 @@ fn run(
     );
 }
 
-// Runs a case of the data: the terms, and then name, password, another password, plain stream and sealed stream, each behind
+// Runs a case of the data: the terms, and then name, password, another password, plain stream and sealed stream, each after
 // its length.
 fn run_case(data: &[u8], counts: &mut [u64; KINDS]) {
     let name = number(data, 84);
@@ -331,7 +331,7 @@ fn run_case(data: &[u8], counts: &mut [u64; KINDS]) {
     );
 }
 
-// Runs the cases of a part of the data, each behind its length.
+// Runs the cases of a part of the data, each after its length.
 fn run_all(data: &[u8], counts: &mut [u64; KINDS]) {
     let mut at: usize = 0;
     while at < data.len() {

@@ -15,7 +15,7 @@ ghost use Rattle.sensitive.specs.Utf8 as utf8;
 ghost use Rattle.sensitive.specs.Utf16.{units, encoded, lengthOf, into};
 ghost use Rattle.sensitive.specs.Ansi.{ansi, ansiOf};
 
-// What stands at an offset of a text: a character, by its code point and where the next one starts;
+// What is at an offset of a text: a character, by its code point and where the next one starts;
 // bytes that start no character; nothing.
 pub enum Char {
     Point(u32, usize),
@@ -43,13 +43,13 @@ pub enum Encoded {
     Short(usize),
 }
 
-// An XOR password: its bytes, of which the first len count. A len of 0 says that there is none.
+// An XOR password: its bytes, of which the first len count. A len of 0 means that there is none.
 pub struct AnsiPassword {
     pub bytes: [u8; 16],
     pub len: usize,
 }
 
-// The key of one block: its bytes, of which the first len count, with zeros behind them.
+// The key of one block: its bytes, of which the first len count, followed by zeros.
 pub struct DerivedKey {
     pub bytes: [u8; 16],
     pub len: usize,
@@ -146,7 +146,7 @@ fn character(at: usize, a: u8, b: u8, c: u8, d: u8) -> Char
     Char::Malformed
 }
 
-// What stands at an offset of a text.
+// What is at an offset of a text.
 pub fn char_at(text: &[u8], at: usize) -> Char
     ensures { λ r. ⌜ r ≡ charAt (now (text .entry)) at ⌝ }
 {
@@ -276,7 +276,7 @@ pub fn utf16le_password(text: &[u8], out: &mut [u8]) -> Encoded
     }
 }
 
-// The answer that there is no XOR password.
+// The result where there is no XOR password.
 fn no_password() -> AnsiPassword
     ensures { λ r. ⌜ r ≡ ansiOf none ⌝ }
 {
@@ -312,7 +312,7 @@ pub fn ansi_password(text: &[u8]) -> AnsiPassword
     }
 }
 
-// Zeroes the first n bytes, and answers true; where there are fewer, answers false and leaves them.
+// Zeroes the first n bytes, and returns true; where there are fewer, returns false and leaves them.
 pub fn wipe(buf: &mut [u8], n: usize) -> bool
     ensures { λ r. ⌜ (r ≡ leb n (length (now (buf .entry)))) × (now (buf .exit) ≡ pick (leb n (length (now (buf .entry)))) (replicate n 0 ++ drop n (now (buf .entry))) (now (buf .entry))) ⌝ }
 {

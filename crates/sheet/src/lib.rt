@@ -78,7 +78,7 @@ fn look_number(verdict: binary_office::Verdict) -> u32
     }
 }
 
-// The facts of what stands at an offset.
+// The facts of what is at an offset.
 fn record_facts(step: binary_office::Step) -> [u64; 8]
     ensures { λ r. ⌜ r ≡ recordFacts step ⌝ }
 {
@@ -92,7 +92,7 @@ fn record_facts(step: binary_office::Step) -> [u64; 8]
     }
 }
 
-// The number of what stands at an offset.
+// The number of what is at an offset.
 fn record_number(step: binary_office::Step) -> u32
     ensures { λ r. ⌜ r ≡ recordNumber step ⌝ }
 {
@@ -233,7 +233,7 @@ pub extern "C" fn sheet_same_lock(a: &[u8], b: &[u8]) -> bool
     binary_office::same_lock(a, b)
 }
 
-// A step of the walk: what stands at an offset.
+// A step of the walk: what is at an offset.
 #[no_mangle]
 pub extern "C" fn sheet_record(stream: &[u8], at: usize, told: &mut [u64; 8]) -> u32
     ensures { λ r. ⌜ (r ≡ recordNumber (stepAt (now (stream .entry)) at)) × (now (told .exit) ≡ recordFacts (stepAt (now (stream .entry)) at)) ⌝ }
@@ -280,7 +280,7 @@ pub extern "C" fn sheet_open(
     open_number(answer)
 }
 
-// What came of sealing, as opening would tell it.
+// The result of sealing, as opening would report it.
 fn as_opened(answer: sealing::Answer) -> excel97::Answer
     ensures { λ r. ⌜ r ≡ asOpened answer ⌝ }
 {

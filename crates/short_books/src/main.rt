@@ -1,4 +1,4 @@
-// Looks at the streams in its data, compares the lock of each with the one before, tells what opening will take, and opens
+// Looks at the streams in its data, compares the lock of each with the one before, says what opening will take, and opens
 // them, through the C exports; prints for each the answers, what is left of the scratch, and the output.
 // tools/make_short_books.py makes the data and what is expected.
 use libc::STDOUT_FILENO;
@@ -108,7 +108,7 @@ fn tell_same(same: bool) {
     count(if same { 1 } else { 0 });
 }
 
-// Looks at a stream, compares its lock with that of the one before, tells what opening will take, and opens it, with what
+// Looks at a stream, compares its lock with that of the one before, says what opening will take, and opens it, with what
 // is lent.
 fn run_lent(
     name: &[u8],
@@ -158,7 +158,7 @@ fn run(
     );
 }
 
-// Runs all cases: name, password and stream, each behind its length, and the lengths of scratch and output.
+// Runs all cases: name, password and stream, each after its length, and the lengths of scratch and output.
 fn run_all(data: &[u8]) {
     let mut cases: u64 = 0;
     let mut at: usize = 0;

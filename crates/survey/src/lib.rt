@@ -259,7 +259,7 @@ fn check_locked(stream: &[u8], tally: Tally) -> Surveyed
     }
 }
 
-// Asks questions 4 and 6 to 26: what the stream alone tells of its opening, or the first refusal.
+// Asks questions 4 and 6 to 26: what the stream alone says of its opening, or the first refusal.
 pub fn survey(stream: &[u8]) -> Surveyed
     ensures { λ r. ⌜ r ≡ surveyed (now (stream .entry)) ⌝ }
 {

@@ -55,7 +55,7 @@ fn sha1_set(data: &[u8]) -> Tally {
     t
 }
 
-// Three digests, one behind the other.
+// Three digests, one after the other.
 fn joined(a: [u8; 20], b: [u8; 20], c: [u8; 20]) -> [u8; 60] {
     let mut m = [0u8; 60];
     let mut i = 0;
@@ -113,7 +113,7 @@ fn sha1_monte(data: &[u8]) -> Tally {
 }
 
 // Whether 16 bytes of a key's keystream from an offset of at most 4,096 on are those wanted. The
-// keystream is taken up again behind the bytes before the offset.
+// keystream is resumed after the bytes before the offset.
 fn keystream_same(key: &[u8], offset: usize, want: &[u8]) -> bool {
     let made = Keystream::new(key);
     if !made.ok {

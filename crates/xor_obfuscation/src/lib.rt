@@ -265,7 +265,7 @@ pub fn xor_key(password: &[u8]) -> XorKey
     XorKey::Key(char_key(key, password[0], element))
 }
 
-// The byte of the password, or of the padding behind it, at a place.
+// The byte of the password, or of the padding after it, at a place.
 fn source(password: &[u8], i: usize) -> u8
     ensures { λ r. ⌜ r ≡ getD (now (password .entry) ++ padArray) i 0 ⌝ }
 {
@@ -385,7 +385,7 @@ fn put(bytes: [u8; 16], dst: &mut [u8], at: usize)
 }
 
 // The first n bytes, at least 16, deciphered in pieces of 16 by the array twice over. The last piece ends at n, and
-// where n is no multiple of 16 it writes some bytes of the one before it once more.
+// where n is not a multiple of 16 it writes some bytes of the one before it again.
 fn deciphered_pieces(twice: &[u8; 32], index: usize, src: &[u8], dst: &mut [u8], n: usize)
     requires { ⌜ (16 ≤ n) × (n ≤ length (now src)) × (n ≤ length (now dst)) ⌝ }
     ensures { λ _. ⌜ ((array : List ℕ) → now (twice .entry) ≡ twiceOver array
