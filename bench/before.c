@@ -1,4 +1,4 @@
-/* Times the key mixing, the walk, the forecast and Open, of long books and of a short one, of two trees' archives beside each other, in one run, on the same
+/* Times the key mixing, the walk, the forecast and Open, of long books and of a short one, of two trees' archives, in one run, on the same
    keys, streams and buffers: this tree's, and an earlier one's, whose functions have before_ ahead of their names. Each figure is the best of several rounds in
    which the two take turns; what each computes is compared with OpenSSL's keystream, and with the plain stream. */
 #include "../include/sheet.h"
@@ -127,7 +127,7 @@ static void opening(int lock, unsigned bits, size_t body)
     printf("%-42s before %5.0f MB/s   now %5.0f MB/s   %.3f times as fast\n", name, len / best[1] / 1e6, len / best[0] / 1e6, best[1] / best[0]);
 }
 
-/* a short book, opened many times over: what a call costs beside its bytes */
+/* a short book, opened many times over: what a call costs besides its bytes */
 static void short_book(const char *name, int lock)
 {
     size_t len = make(lock, 128, 14, 300);

@@ -1,4 +1,4 @@
-/* Times sheet_directory beside the walk alone (bench_walk), in one run, on the same streams: 64 MiB with 300 sheets in rising order, in large and in small
+/* Times sheet_directory against the walk alone (bench_walk), in one run, on the same streams: 64 MiB with 300 sheets in rising order, in large and in small
    records, and the same sheets named in falling order. Each figure is the best of several rounds in which the two take turns. Then a stream of 1 MiB that
    is made to be slow. */
 #define _GNU_SOURCE
@@ -22,7 +22,7 @@ static size_t record(size_t at, unsigned id, size_t len)
     return at + 4 + len;
 }
 
-/* BOF, an entry for each sheet, EOF; then the sheets: BOF, records of a body length, EOF. Tells the start in the last entry */
+/* BOF, an entry for each sheet, EOF; then the sheets: BOF, records of a body length, EOF. Returns the start in the last entry */
 static size_t make(size_t body, int falling, size_t *last)
 {
     size_t at = record(0, BOF, 16), entries = at, start[SHEETS];
@@ -65,7 +65,7 @@ static void beside(size_t body, int falling)
     printf("%.2f ms, the walk %.2f ms, ratio %.2f\n", directory * 1e3, walk * 1e3, directory / walk);
 }
 
-/* BOF, as many entries as given, empty records, and at the end so many pairs of BOF and EOF. The entries name these in falling order, over and over: all but
+/* BOF, as many entries as given, empty records, and at the end the given number of pairs of BOF and EOF. The entries name these in falling order, over and over: all but
    one of each run go back to the front, and from there over nearly all records */
 static void hostile(size_t len, size_t entries, size_t pairs)
 {

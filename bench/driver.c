@@ -1,4 +1,4 @@
-/* Times the proved hashes, RC4 and XOR obfuscation beside plain C and OpenSSL, in one run, on the same bytes and buffers. Each figure is the best of
+/* Times the proved hashes, RC4 and XOR obfuscation against plain C and OpenSSL, in one run, on the same bytes and buffers. Each figure is the best of
    several rounds in which the candidates take turns. What they compute is compared first. */
 #include "common.h"
 #include <openssl/md5.h>

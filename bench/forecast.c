@@ -1,4 +1,4 @@
-/* Times sheet_forecast beside the walk alone (bench_walk), in one run, on the same streams: 64 MiB under XOR and under RC4, in large and in small records of one
+/* Times sheet_forecast against the walk alone (bench_walk), in one run, on the same streams: 64 MiB under XOR and under RC4, in large and in small records of one
    id, and in small ones whose ids are drawn: of records that are clear and of others, and of BoundSheet8 too. Each figure is the best of several rounds in which the two take turns. */
 #define _GNU_SOURCE
 #include "../include/sheet.h"

@@ -1,4 +1,4 @@
-/* Times sheet_open beside plain C with OpenSSL's RC4, SHA-1 and MD5, in one run, on the same streams: 64 MiB under each lock, in large and in small
+/* Times sheet_open against plain C with OpenSSL's RC4, SHA-1 and MD5, in one run, on the same streams: 64 MiB under each lock, in large and in small
    records. Each figure is the best of several rounds in which the candidates take turns, on the same buffers; what each opens to is compared first. Then finds
    how deep into the stack a call goes, by painting it, with a short password and with one of 1,024 bytes, and asks question 4 on both sides of its boundary. */
 #define _GNU_SOURCE
@@ -95,7 +95,7 @@ int main(void)
         size_t with_short = depth(call);
         if (answer)
             return 1;
-        /* XOR takes 15 characters at the most, so there the longest password is tried on the same stream and refused */
+        /* XOR takes at most 15 characters, so there the longest password is tried on the same stream and refused */
         uint8_t kept[PASSWORD_MAX + 1];
         size_t kept_len = password_len;
         memcpy(kept, password, sizeof kept);

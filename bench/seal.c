@@ -1,4 +1,4 @@
-/* Times sealing beside opening, in one run, in turns, on the same streams of 64 MiB: each figure is the median of ten rounds. What is sealed is compared with the stream
+/* Times sealing against opening, in one run, in turns, on the same streams of 64 MiB: each figure is the median of ten rounds. What is sealed is compared with the stream
    that OpenSSL locked, behind its FILEPASS, and what is opened with the plain stream. Then finds how deep into the stack sealing goes. */
 #define _GNU_SOURCE
 #include "../include/sheet.h"

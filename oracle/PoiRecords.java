@@ -7,8 +7,8 @@ import org.apache.poi.hssf.record.RecordFactory;
 import org.apache.poi.hssf.record.crypto.Biff8EncryptionKey;
 
 /**
- * Prints the records that Apache POI reads from locked streams, each as hexadecimal digits, or that the password is refused, or what is thrown else; and an empty
- * line behind each stream. Arguments: stream and password, as often as wanted.
+ * Prints the records that Apache POI reads from locked streams, each as hexadecimal digits, or that the password is refused, or what else is thrown; and an empty
+ * line after each stream. Arguments: stream and password, any number of times.
  */
 public class PoiRecords {
     public static void main(String[] args) throws Exception {

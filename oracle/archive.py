@@ -1,4 +1,4 @@
-"""libsheet.a for the scripts beside this file: opening and sealing, as include/sheet.h has them."""
+"""libsheet.a for the scripts in this folder: opening and sealing, as in include/sheet.h."""
 import ctypes
 import pathlib
 import subprocess
@@ -30,7 +30,7 @@ class Archive:
         return self.called("sheet_open", stream, password)
 
     def sealed(self, lock, plain, password, salt, verifier, major, bits):
-        """Seals under a lock: XOR, 1.1 or CryptoAPI. Salt and verifier are not asked under XOR, major and key size under CryptoAPI alone."""
+        """Seals under a lock: XOR, 1.1 or CryptoAPI. Salt and verifier are not used under XOR, major and key size only under CryptoAPI."""
         if lock == "XOR":
             return self.called("sheet_seal_xor", plain, password)
         if lock == "1.1":

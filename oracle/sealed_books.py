@@ -1,4 +1,4 @@
-"""Books that the archive seals, and what other programs make of them: the Rust, msoffcrypto-tool, LibreOffice and Apache POI. Part of oracle/real_books.
+"""Books that the archive seals, and what other programs do with them: the Rust, msoffcrypto-tool, LibreOffice and Apache POI. Part of oracle/real_books.
 
 A locked book is opened and sealed again as 1.1 with another password. A book without a lock gets a zero record behind its BOF, and is sealed under every choice.
 Salt and verifier are MD5 digests of words with the book's name, so that a run repeats. Each check gives lines: a name, whether all is as it should be, and words.
@@ -28,7 +28,7 @@ JARS = [pathlib.Path("/usr/share/java", jar) for jar in ("poi.jar", "commons-col
 
 @dataclasses.dataclass(frozen=True)
 class Sealed:
-    """A book that was sealed: how, what came of it, and the book that it was made from, with its password or None."""
+    """A book that was sealed: how, the result, and the book that it was made from, with its password or None."""
     name: str
     source: tuple
     lock: str
@@ -52,7 +52,7 @@ class Sealed:
         return len(self.password.encode("utf-16-le")) // 2
 
     def made(self, archive, padding=0):
-        """The same, sealed, with so many zeros behind."""
+        """The same, sealed, with that many zeros after it."""
         plain, salt, verifier = self.plain + bytes(padding), *self.fresh()
         number, facts, out = archive.sealed(self.lock, plain, self.password.encode(), salt, verifier, self.major, self.bits)
         return dataclasses.replace(self, plain=plain, number=number, facts=facts, sealed=out)
@@ -70,7 +70,7 @@ def records(stream):
 
 
 def zeroed(stream, length):
-    """A stream with a zero record behind its BOF; the starts of the sheets are moved by its size."""
+    """A stream with a zero record after its BOF; the starts of the sheets are moved by its size."""
     (_, *bof), *rest = records(stream)
     moved = [(n, struct.pack("<I", struct.unpack_from("<I", b)[0] + 4 + length) + b[4:]) if n == BOUND_SHEET else (n, b) for _, n, b in rest]
     return record(*bof) + record(0, bytes(length)) + b"".join(record(*r) for r in moved)
@@ -110,7 +110,7 @@ def as_it_was(archive, stream, password):
 
 
 def told(program, outcomes):
-    """Lines for a program. outcomes: of each book itself, what came of it, and what should come of it and why."""
+    """Lines for a program. outcomes: for each book the result, the expected result and the reason."""
     groups = collections.defaultdict(list)
     for book, outcome, (expected, why) in outcomes:
         groups[book.how, why, outcome, expected].append(book.name)
@@ -120,12 +120,12 @@ def told(program, outcomes):
 
 
 def told_wrong(program, outcomes):
-    """The line for another password. outcomes: of each book that the program opens, whether it refuses that one."""
+    """The line for another password. outcomes: for each book that the program opens, whether it refuses that one."""
     yield f"{program}, another password", all(outcomes) and len(outcomes) > 0, f"refused for {sum(outcomes)} of the {len(outcomes)} that it opens"
 
 
 def by_archive(archive, books):
-    """Each opens again, with the report that sealing gave, and not with another password; padded, it is sealed as without, with the zeros behind."""
+    """Each opens again, with the report that sealing gave, and not with another password; padded, it is sealed as without, with the zeros after it."""
     outcomes = []
     for book in books:
         number, facts, plain = archive.opened(book.sealed, book.password.encode())
@@ -185,7 +185,7 @@ def by_msoffcrypto(other, container, books):
 
 
 def expected_of_libreoffice(book):
-    """It takes passwords of 1 to 15 units; under CryptoAPI it knows versions 3.2 and 4.2, and takes every key for one of 128 bits."""
+    """It accepts passwords of 1 to 15 units; under CryptoAPI it knows versions 3.2 and 4.2, and treats every key as one of 128 bits."""
     if not 1 <= book.units <= 15:
         return "does not open it", "a password of no or more than 15 UTF-16 units"
     if book.lock == "CryptoAPI" and book.major == 2:
@@ -215,7 +215,7 @@ def by_libreoffice(load, container, books):
 
 
 def poi(streams):
-    """What Apache POI makes of streams with a password each: records as hexadecimal digits, or one line that says why there are none."""
+    """What Apache POI does with streams, each with a password: records as hexadecimal digits, or one line that says why there are none."""
     folder, arguments = WORK / "poi", []
     folder.mkdir(parents=True, exist_ok=True)
     for n, (stream, password) in enumerate(streams):
@@ -227,7 +227,7 @@ def poi(streams):
 
 
 def expected_of_poi(book):
-    """It cuts passwords at 255 units, has an XOR verifier of its own above U+007F, and goes by the end of the provider's name and not by the header's size."""
+    """It cuts passwords at 255 units, has an XOR verifier of its own above U+007F, and uses the end of the provider's name and not the header's size."""
     if book.units > 255:
         return "refused", "a password of more than 255 UTF-16 units"
     if book.lock == "XOR" and not book.password.isascii():
@@ -238,7 +238,7 @@ def expected_of_poi(book):
 
 
 def by_poi(books):
-    """Apache POI reads the records that it reads of the plain stream, but for FILEPASS in the place of the zero record."""
+    """Apache POI reads the records that it reads of the plain stream, except for FILEPASS in place of the zero record."""
     lines = poi([pair for book in books for pair in ((book.plain, ""), (book.sealed, book.password), (book.sealed, book.another))])
     if len(lines) != 3 * len(books):
         yield "Apache POI", False, f"reads {len(lines)} of {3 * len(books)} streams"

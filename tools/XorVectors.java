@@ -9,8 +9,8 @@ import org.apache.poi.poifs.crypt.CryptoFunctions;
  * them. Run at the root of the project:
  *   java -cp /usr/share/java/poi.jar:/usr/share/java/commons-collections4.jar tools/XorVectors.java
  * For each: the password's length, the password, the key and the verifier as numbers of four bytes, the lower first, and the array of 16 bytes.
- * Above U+007F POI takes a character's byte as a signed number for the verifier and as '?' for the array, which MS-OFFCRYPTO 2.3.7 does not, so
- * those are left out (docs/DIFFERENCES.md). Each byte of POI's array is rotated left by three bits against MS-OFFCRYPTO 2.3.7.2; it is rotated back
+ * Above U+007F POI treats a character's byte as a signed number for the verifier and as '?' for the array, which MS-OFFCRYPTO 2.3.7 does not, so
+ * those are left out (docs/DIFFERENCES.md). Each byte of POI's array is rotated left by three bits compared with MS-OFFCRYPTO 2.3.7.2; it is rotated back
  * here.
  */
 public class XorVectors {

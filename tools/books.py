@@ -1,4 +1,4 @@
-"""Protected workbook streams made from plain ones, for the scripts beside this file.
+"""Protected workbook streams made from plain ones, for the scripts in this folder.
 
 Written from document 01, MS-XLS 2.2.10 and MS-OFFCRYPTO 2.3.5 to 2.3.7, by code that shares nothing with the crates: MD5 and SHA-1 are CPython's,
 RC4 is OpenSSL's (libcrypto by ctypes), and the key, verifier and array of an XOR password are Apache POI's, from crates/vectors/data/xor.
@@ -32,12 +32,12 @@ def clear_of(number, length):
 
 
 def some(length, seed):
-    """So many bytes that differ from their neighbours."""
+    """That many bytes, each different from its neighbours."""
     return bytes((seed + 37 * k + (k >> 5)) % 256 for k in range(length))
 
 
 def characters(count, first=0x21, room=94):
-    """So many characters, all from `first` on and below `first + room`: of one byte each where none is named. In UTF-16LE no two of its blocks are equal."""
+    """That many characters, all from `first` on and below `first + room`: of one byte each where none is named. In UTF-16LE no two of its blocks are equal."""
     made = "".join(chr(first + 1009 * k % room) for k in range(count))
     data = made.encode("utf-16-le")
     for start in 0, 48:
@@ -145,7 +145,7 @@ def book(lock, password, records):
 
 
 def reported(lock, password, records, padding=0):
-    """A locked stream and its plain one, as many zeros behind both, and what Open reports of it: the counts are those of locking it. A block that is of padding
+    """A locked stream and its plain one, as many zeros after both, and what Open reports of it: the counts are those of locking it. A block of padding
     alone has a key too, under RC4."""
     derived, enciphered = lock.derived, lock.enciphered
     locked, plain = book(lock, password, records)

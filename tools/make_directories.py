@@ -26,7 +26,7 @@ parts, lines, tally = [], [], collections.Counter()
 
 def walk(stream):
     """The records, each as its offset, id and body, up to the end or to one that can't be walked, and the offset of that one, or None. One to three bytes
-    behind the last record, all zero, are the end."""
+    after the last record, all zero, are the end."""
     records, at = [], 0
     while at < len(stream):
         header = stream[at:at + 4]
@@ -93,7 +93,7 @@ def sheet(start, rest=b""):
     return record(BOUND_SHEET, struct.pack("<I", start) + rest)
 
 
-# 6: what can't be walked; zeros behind the last record can
+# 6: what can't be walked; zeros after the last record can
 for length in 1, 2, 3:
     case(f"a header of {length}", B[:length], (6, 0))
     case(f"a header of {length} behind BOF", B + E[:length], (6, 4))
@@ -154,7 +154,7 @@ for length in range(6):
     assert stream[8:12] == start[:4]
     case(f"a BoundSheet8 of {length} where four bytes name a BOF", stream, [22] if good else (28, 4))
 
-# every start up to past the end, and high ones. BOF stand at 0 and 38, the BoundSheet8 itself at 20, other records at 28 and 58, EOF at 34 and 70, and
+# every start up to past the end, and high ones. BOF are at 0 and 38, the BoundSheet8 itself at 20, other records at 28 and 58, EOF at 34 and 70, and
 # from 62 on a body looks like BOF and EOF
 HEAD, TAIL = record(BOF, bytes(16)), OTHER + E + record(BOF, bytes(16)) + record(0x0204, B + E) + E
 assert len(HEAD) + 8 + len(TAIL) == 74
@@ -162,7 +162,7 @@ HIGH = [start for k in (8, 16, 24, 31) for start in (2 ** k, 2 ** k + 38)] + [38
 for start in *range(77), *HIGH:
     case(f"start {start}", HEAD + sheet(start) + TAIL, [start] if start in (0, 38) else (28, 20), (0,))
 
-# 28 is asked of every BoundSheet8, whatever the place: of three, each choice of bad ones, of which the first stands at 4, 12 or 20
+# 28 is asked of every BoundSheet8, whatever the place: of three, each choice of bad ones, of which the first is at 4, 12 or 20
 for bad in itertools.product((False, True), repeat=3):
     for kind, wrong in ("start", sheet(1)), ("body", record(BOUND_SHEET, bytes(3))):
         stream = B + b"".join(wrong if fault else sheet(0) for fault in bad) + E
@@ -205,7 +205,7 @@ case("300 deep, one left open", B * 300 + E * 299, (29, 2396))
 case("300 deep, an EOF too many", B * 300 + E * 301 + B, (29, 2400))
 case("257 deep, all but one left open", B * 257 + E, (29, 1032))
 
-# ids near the three are nothing: no such record is a bracket, or a sheet with a short body, or named by a start
+# ids near the three mean nothing: no such record is a bracket, or a sheet with a short body, or named by a start
 for number in (0x0000, 0x0009, 0x000B, 0x0084, 0x0086, 0x010A, 0x0185, 0x0209, 0x0409, 0x0808, 0x080A, 0x0908, 0x0909, 0x0A00, 0x800A, 0x8085, 0x8500,
                0x8809, 0xFFFF):
     case(f"id {number:04x}", B + record(number, b"\1") + E + record(number), [], (0,))
@@ -233,7 +233,7 @@ def broken(faults, stray, cut):
     return stream, details
 
 
-# every one of 6, 7, 28 and 29, and every two, three and all of them in one stream: the earlier answers
+# every one of 6, 7, 28 and 29, and every two, three and all of them in one stream: the earlier one is the refusal
 for count in 1, 2, 3, 4:
     for faults in itertools.combinations((6, 7, 28, 29), count):
         strays = ("EOF before", "EOF behind", "BOF left") if 29 in faults else ("",)
@@ -244,14 +244,14 @@ for count in 1, 2, 3, 4:
 
 
 def offsets(records):
-    """The records with their starts written, and where each stands, and the end. A start is given as the place in the list of the record it names."""
+    """The records with their starts written, and where each is, and the end. A start is given as the place in the list of the record it names."""
     records = [(r[0], bytes(4) + r[2], r[1]) if len(r) == 3 else (*r, None) for r in records]
     at = [0, *itertools.accumulate(4 + len(body) for _, body, _ in records)]
     return [(number, body if named is None else struct.pack("<I", at[named]) + body[4:]) for number, body, named in records], at
 
 
 def both(name, lock, password, records, expected, rest=b""):
-    """A locked book and its plain form, which answer alike: `expected` tells how from where the records stand. `rest` stands behind both."""
+    """A locked book and its plain form, which have the same answer: `expected` computes it from where the records are. `rest` comes after both."""
     records, at = offsets([(FILEPASS, lock.filepass(password)) if r == (FILEPASS, b"") else r for r in records])
     locked, plain = book(lock, password, records)
     case(f"{name}, locked", locked + rest, expected(at))
@@ -279,7 +279,7 @@ for name, lock, password in LOCKS:
     both(f"{name}, a bad start and a BOF left open", lock, password, BOOK[:5] + [(BOUND_SHEET, 7, b"")] + BOOK[6:16], lambda at: (28, at[5]))
 
 
-# padding: every remainder of one to three bytes, of zeros and others. Zeros leave the answer as it is, save that a BOF left open has the whole length
+# padding: every remainder of one to three bytes, of zeros and others. Zeros leave the answer as it is, except that a BOF left open has the full length
 REMAINDERS = [bytes(r) for length in (1, 2, 3) for r in itertools.product(*((0, other) for other in (0x2F, 0x01, 0x80)[:length]))]
 for rest in REMAINDERS:
     for name, stream, told in (

@@ -27,7 +27,7 @@ sheet = [(BOF, struct.pack("<8H", 0x0600, 0x10, 0, 0, 0, 0, 0, 0))] + table + [(
 
 
 def globals_(lock_len):
-    """The records ahead of the sheet. Its entry (BoundSheet8) names the offset of its BOF, which the length of the lock decides."""
+    """The records before the sheet. Its entry (BoundSheet8) names the offset of its BOF, which the length of the lock decides."""
     records = [(BOF, struct.pack("<8H", 0x0600, 5, 0, 0, 0, 0, 0, 0)), (FILEPASS, b""), (BOUND_SHEET, bytes(4) + b"\0\0\x08\0calibres"), (EOF, b"")]
     start = lock_len + sum(4 + len(body) for _, body in records)
     records[2] = BOUND_SHEET, struct.pack("<I", start) + records[2][1][4:]

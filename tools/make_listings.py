@@ -2,7 +2,7 @@
 """Writes the data of the program `listings`, crates/listings/data/streams, and what it is to print, crates/listings/stdout.
 
 Usage, at the root of the project: tools/make_listings.py. What is expected is computed here, from document 01's words on the walk and its listing, and
-document 02's on padding (T-05), by code that shares nothing with the crates. In the data each stream stands behind its length of four bytes, the lower first.
+document 02's on padding (T-05), by code that shares nothing with the crates. In the data each stream comes after its length of four bytes, the lower first.
 """
 import itertools
 import pathlib
@@ -50,7 +50,7 @@ streams = [
     record(0xFFFF, bytes(9)) + record(0xABCD, bytes(10)) + record(0x0000, bytes(100)) + record(0x0085, bytes(1000)) + record(0x0809, bytes(10000)),
 ]
 assert [len(s) for s in streams[8:12]] == [32768, 32769, 32769, 32768]
-# every remainder of one to three bytes, of zeros and others: behind nothing, behind records, and where it is no remainder but part of a record
+# every remainder of one to three bytes, of zeros and others: after nothing, after records, and where it is not a remainder but part of a record
 for rest in (bytes(r) for length in (1, 2, 3) for r in itertools.product(*((0, other) for other in (0x2F, 0x01, 0x80)[:length]))):
     streams += [rest, record(0x0809) + rest, record(0x0809, bytes(16)) + record(0x0042, b"\xb0\x04") + rest]
     streams += [record(0x0809) + struct.pack("<HH", 0x0042, len(rest) + 1) + rest, record(0x0809) + record(0x0042, rest)]

@@ -4,12 +4,12 @@
 Usage, at the root of the project: tools/make_sealings.py. Needs OpenSSL's libcrypto. A sealed stream is not made from a plain one: books.py makes both from
 their records, with CPython's MD5 and SHA-1, OpenSSL's RC4 (libcrypto's RC4_set_key and RC4, by ctypes) and Apache POI's key, verifier and array (rotated back by three bits, as XorVectors.java has it) of an XOR
 password, and the report is what locking took. Above U+007F POI's values are not MS-OFFCRYPTO's (docs/DIFFERENCES.md); those of the passwords in LATIN are
-the Rust source's, as `differ xor` of oracle/ prints them. Each refusal is stated here beside its case, from document 02's list of checks (T-07). Salt and
+the Rust source's, as `differ xor` of oracle/ prints them. Each refusal is stated here with its case, from document 02's list of checks (T-07). Salt and
 verifier of a case are MD5 digests of words with its name, so that they are fixed and differ from case to case.
 
-In the data a case stands behind its length; all numbers have four bytes, the lower first. First come the lock (0 XOR, 1 1.1, 2 CryptoAPI), the major version,
+In the data a case comes after its length; all numbers have four bytes, the lower first. First come the lock (0 XOR, 1 1.1, 2 CryptoAPI), the major version,
 the key size, the lengths of scratch and output, the number of the answer and its seven facts, then salt and verifier of 16 bytes each; then five parts, each
-behind its length: the name, the password, another password, the plain stream and the sealed one, of which the third and the last have no bytes where sealing is
+after its length: the name, the password, another password, the plain stream and the sealed one, of which the third and the last have no bytes where sealing is
 refused. The program lends bytes (offset mod 251) + 1, which are never zero.
 """
 import collections
@@ -22,7 +22,7 @@ import struct
 from books import BOF, BOUND_SHEET, EOF, FILEPASS, LONGEST, SEVEN, CryptoApi, Office97, Xor, characters, record, reported, some
 
 XOR = Xor()
-LOCKS = {"XOR": (0, 6), "1.1": (1, 54), "CryptoAPI": (2, 106)}  # the number of each, and the shortest body that it wants
+LOCKS = {"XOR": (0, 6), "1.1": (1, 54), "CryptoAPI": (2, 106)}  # the number of each, and the shortest body that it needs
 B, CELL, E = record(BOF), record(0x0042, b"\xb0\x04"), record(EOF)
 RIGHT = XOR.passwords(8)[0]
 LATIN = {  # key, verifier and array
@@ -51,7 +51,7 @@ def zero(length):
 
 
 def case(name, lock, plain, password, number, facts, other="", sealed=b"", major=2, bits=128, scratch=70, more=3):
-    """One case: `number` and `facts` are what sealing answers, and `sealed` the stream that it leaves, of which none says that the output is untouched."""
+    """One case: `number` and `facts` are what sealing returns, and `sealed` the stream that it leaves, where None means that the output is untouched."""
     assert name not in names and name.isascii(), name
     names.add(name)
     password, other = (text if isinstance(text, bytes) else text.encode() for text in (password, other))
@@ -91,7 +91,7 @@ def refused(name, lock, plain, number, facts=(), password=RIGHT, **rest):
 
 
 def at_lock(lock, behind=CELL + E, length=None):
-    """A plain stream with a zero record that the lock wants, or one of another length."""
+    """A plain stream with a zero record that suits the lock, or one of another length."""
     return B + zero(LOCKS[lock][1] if length is None else length) + behind
 
 
@@ -117,7 +117,7 @@ for bits in range(40, 129, 8):
     seals(f"three blocks, key size {bits}", "CryptoAPI", "Unruh 50°", LONG, major=2 + bits // 8 % 3, bits=bits)
 for lock in "XOR", "1.1":
     seals(f"{lock}, three blocks", lock, XOR.passwords(15)[1], LONG)
-    # of these neither is asked
+    # neither is asked for these
     seals(f"{lock}, version 9.2, key size 9", lock, RIGHT, SMALL, major=9, bits=9)
     seals(f"{lock}, version 0.2, key size 0", lock, RIGHT, SMALL, major=0, bits=0)
 
@@ -198,7 +198,7 @@ for lock, (_, length) in LOCKS.items():
             body[at] = byte
             refused(f"{lock}, byte {at} of the body is {byte:02x}", lock, B + record(0, bytes(body)) + behind, 30)
     refused(f"{lock}, a body of {length} ones", lock, B + record(0, b"\1" * length) + behind, 30)
-    # what is no zero record is not asked for its length
+    # the length of a record that is not a zero record does not matter
     for unfit in 1, length - 1, length + 1:
         refused(f"{lock}, a body of {unfit}, the last byte 01", lock, B + record(0, bytes(unfit - 1) + b"\1") + behind, 30)
         refused(f"{lock}, id 0042 with a zero body of {unfit}", lock, B + record(0x0042, bytes(unfit)) + behind, 30)
@@ -233,7 +233,7 @@ for lock, (_, length) in LOCKS.items():
         if total < 2000 or padding == total % 4:
             rest = total - padding - sum(4 + len(body) for _, body in SMALL) - length - 4
             seals(f"{lock}, a stream of {total}, {padding} of padding", lock, RIGHT, SMALL + [(0x00FD, some(rest, total))], padding)
-    # the zero record across the end of the first block, by its header and by its body, and behind it
+    # the zero record across the end of the first block, by its header and by its body, and after it
     for at in 1024 - length // 2 - 4, 1018, 1020, 1021, 1022, 1023, 1024, 1030:
         seals(f"{lock}, the zero record at {at}", lock, RIGHT, [(BOF, some(at - 4, at))] + START[1:] + [(0x0042, some(5, 5)), (BOUND_SHEET, some(7, 7))])
     # a header across the end of a block, and of the second too
@@ -256,8 +256,8 @@ def broken(lock, faults):
     return plain + (E[:2] if 6 in faults else b""), {"password": password, **rest}, details
 
 
-# every check, and every two and as many as can be at once: the first one answers. 31 is asked only of a zero record, and 30 is of there being none; 32 is of XOR,
-# 13 and 23 of CryptoAPI: so no case breaks two of these. Under XOR a password that is refused by 1 or 2 is one that 32 would refuse too
+# every check, and every two and as many as can be at once: the first one is the refusal. 31 is asked only of a zero record, and 30 means there is none; 32 is for XOR,
+# 13 and 23 are for CryptoAPI: so no case breaks two of these. Under XOR a password that is refused by 1 or 2 is one that 32 would refuse too
 ORDER = 1, 2, 3, 5, 6, 7, 13, 23, 30, 31, 32
 for lock in LOCKS:
     own = [k for k in ORDER if lock == {13: "CryptoAPI", 23: "CryptoAPI", 32: "XOR"}.get(k, lock)]
@@ -282,7 +282,7 @@ for k in range(120):
     seals(f"random {k}", lock, password, records, dice.randrange(4), length, dice.choice((2, 3, 4)), dice.randrange(40, 129, 8),
           scratch=dice.choice((64, 65, 2070)), more=dice.randrange(3))
 
-# files that the program can hold
+# files that fit into the program's memory
 files = [b""]
 for one in cases:
     if len(files[-1]) + len(one) > 262144:

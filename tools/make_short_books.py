@@ -3,13 +3,13 @@
 
 Usage, at the root of the project: tools/make_short_books.py. Needs OpenSSL's libcrypto. The locked streams are made from plain ones by books.py, so an
 opened stream's bytes are those it was made from, and the counts that Open reports are those of sealing it (how many keys books.py derived, how many bytes
-it enciphered); padding is added behind both streams once they are made, and is counted by document 02's words (T-05); each refusal is stated here beside its
+it enciphered); padding is added after both streams once they are made, and is counted by document 02's words (T-05); each refusal is stated here with its
 case, from document 01's list of questions, with the scratch that document 02 asks for (T-06); what is left of the scratch is by document 02's words too: the
 first 64 bytes zero from question 6 on, all others as they were lent. The verdict of Look is computed here, from document 01's words and document 02's (T-03),
 and so is whether a stream and that of the case before have the same lock. The forecast of a stream that is refused by 4 or 6 to 26 is that refusal; else it is
 computed here from the layout of the stream, by document 02's words (T-04, T-05).
 
-In the data a case is five parts, each behind its length of four bytes, the lower first: its name, the password, the stream, and, as parts of no bytes
+In the data a case is five parts, each after its length of four bytes, the lower first: its name, the password, the stream, and, as parts of no bytes
 whose length alone counts, the scratch and the output. The program lends bytes (offset mod 251) + 1, which are never zero.
 """
 import itertools
@@ -23,7 +23,7 @@ XOR = Xor()
 NONE = (0, 0, 0, 0, 0)
 SCRATCH = 64  # the least that is enough, and how much of it ends zero
 cases, lines, before = [], [], None
-firsts = {}  # of each number that Open answers, the first case: stream, facts and password
+firsts = {}  # for each number that Open returns, the first case: stream, facts and password
 
 
 def look(stream):
@@ -57,7 +57,7 @@ def look(stream):
 
 
 def counts(stream):
-    """Output bytes, records, enciphered body bytes and block keys of a stream that is in order. One to three bytes behind the last record are padding."""
+    """Output bytes, records, enciphered body bytes and block keys of a stream that is in order. One to three bytes after the last record are padding."""
     at = records = enciphered = 0
     kind = None
     while len(stream) - at >= 4:
@@ -71,8 +71,8 @@ def counts(stream):
 
 
 def case(name, stream, password, number, facts=(), plain=None, scratch=SCRATCH + 6, more=3, output=None, foretold=None):
-    """One case: `number` and `facts` are what Open answers; `plain` the stream it leaves, of which None says that the output is untouched. `foretold` is the
-    forecast's number and facts, where it is refused and Open is not asked that far."""
+    """One case: `number` and `facts` are what Open returns; `plain` the stream it leaves, where None means that the output is untouched. `foretold` is the
+    forecast's number and facts, where it is refused and Open does not get that far."""
     global before
     password = password if isinstance(password, bytes) else password.encode()
     output = len(stream) + more if output is None else output
@@ -97,7 +97,7 @@ def case(name, stream, password, number, facts=(), plain=None, scratch=SCRATCH +
 
 
 def opened(name, lock, password, records, padding=0, **rest):
-    """A book that opens, with its report, and as many zeros behind both streams."""
+    """A book that opens, with its report, and as many zeros after both streams."""
     stream, plain, told = reported(lock, password, records, padding)
     case(name, stream, password, 0, told, plain, **rest)
 
@@ -138,7 +138,7 @@ for bits in range(0, 137):
         refused(f"key size {bits}", small(CryptoApi(40, stated=bits), "calibre"), 23, (bits,))
 refused("key size 2^31 + 40", small(CryptoApi(40, stated=2 ** 31 + 40), "calibre"), 23, (2 ** 31 + 40,))
 
-# Look's key size, each beside the one before: 0 and 40 are the same lock, of one version and whatever the type other than 0; 0 and none are not
+# Look's key size, each compared with the one before: 0 and 40 are the same lock, of one version and whatever the type other than 0; 0 and none are not
 TYPES = {kind: struct.pack("<H", kind) for kind in (2, 256, 65535)}
 for major in 2, 3, 4:
     opened(f"version {major}.2, key size 0", CryptoApi(40, stated=0, major=major), "calibre", SMALL)
@@ -164,7 +164,7 @@ refused("1.1, bytes 30 to 33 zero", B + record(FILEPASS, OLD[:30] + bytes(4) + O
 
 
 def changed(password):
-    """The same but for the last character, which has as many bytes."""
+    """The same except for the last character, which has as many bytes."""
     return password[:-1] + chr(ord(password[-1]) ^ 1)
 
 
@@ -196,8 +196,8 @@ for text in ILL:
     refused(f"a password of bytes {text}", XOR_BOOK, 2, password=bytes.fromhex(text))
 refused("no UTF-8, no scratch, no output", XOR_BOOK, 2, password=b"A\xff", scratch=0, output=0)
 
-# texts that end at, before and behind the end of a block of 64 bytes, and where the hash's own end no longer fits into the last one. CryptoAPI hashes the
-# salt of 16 bytes and the text, 1.1 the text alone. Then a surrogate pair that lies across the end of the first block, and before and behind it
+# texts that end at, before and after the end of a block of 64 bytes, and where the hash's own end no longer fits into the last one. CryptoAPI hashes the
+# salt of 16 bytes and the text, 1.1 the text alone. Then a surrogate pair that lies across the end of the first block, and before and after it
 for name, lock, salted, no_room in ("1.1", Office97(), 0, (27, 28)), ("CryptoAPI", CryptoApi(name=b""), 16, (19, 20)):
     for count in *no_room, 23, 24, 25, 31, 32, 33, 55, 56, 57, 63, 64, 65:
         opened(f"{name}, a password of {count} letters", lock, characters(count), SMALL, scratch=64)
@@ -205,7 +205,7 @@ for name, lock, salted, no_room in ("1.1", Office97(), 0, (27, 28)), ("CryptoAPI
     for count in across - 1, across, across + 1:
         opened(f"{name}, a password of {count} letters and a pair", lock, characters(count) + "\U0001d11e", SMALL, scratch=64)
 
-# 3: the scratch. Behind the first 64 bytes it is as it was lent, however long
+# 3: the scratch. After the first 64 bytes it is as it was lent, however long
 for name, lock in ("XOR", XOR), ("1.1", Office97()), ("CryptoAPI", CryptoApi()):
     password = XOR.passwords(8)[0]
     for scratch in 64, 65, 2063, 2064, 2065, 2070:
@@ -241,7 +241,7 @@ for number in 0x0808, 0x080A, 0x0909, 0x0009, 0x0908:
 refused("no FILEPASS, six of the seven", b"".join(record(n, bytes(2)) for n in SEVEN if n != FILEPASS), 8)
 refused("no FILEPASS, other ids", B + record(0x0042, bytes(2)) + record(EOF), 8)
 
-# 9: what may stand before FILEPASS
+# 9: what may come before FILEPASS
 opened("six of the seven before FILEPASS", CryptoApi(), "calibre", [(n, b"\7\7") for n in SEVEN if n != FILEPASS] + SMALL[1:])
 for number in 0x0000, 0x0042, 0x0085, 0x00E0, 0x00E2, 0x0137, 0x0139, 0x0193, 0x0197, 0x0808, 0x080A, 0xFFFF:
     refused(f"id {number:04x} before FILEPASS", B + record(0x00E1) + record(number) + record(0x0043) + XOR_BOOK[4:], 9, (number,))
@@ -313,7 +313,7 @@ for at, number, sizes in (46, 25, (0, 15, 17, 2 ** 16 + 16)), (82, 26, (0, 19, 2
         body = LONE.filepass("A")
         refused(f"question {number}, size {size}", B + record(FILEPASS, body[:at] + struct.pack("<I", size) + body[at + 4:]), number, (size,))
 
-# two questions at once: the earlier answers
+# two questions at once: the earlier one is the refusal
 refused("AlgID and AlgIDHash", small(CryptoApi(algorithm=1, hashing=1), "calibre"), 21, (1,))
 refused("AlgID and key size", small(CryptoApi(algorithm=1, stated=39), "calibre"), 21, (1,))
 refused("AlgIDHash and key size", small(CryptoApi(hashing=1, stated=39), "calibre"), 22, (1,))
@@ -363,7 +363,7 @@ for name, lock, password in ("XOR", XOR, XOR.passwords(15)[0]), ("XOR, one chara
         ("CryptoAPI 40", CryptoApi(40), "Unruh 50°"), ("CryptoAPI 56", CryptoApi(56), ""), ("CryptoAPI 128", CryptoApi(), "\U0001d11e und €"):
     gap = 0
     while True:
-        # a gap in front, so that a record's header stands over the end of a block
+        # a gap in front, so that a record's header lies across the end of a block
         records = LARGE[:-2] + [(0x0204, some(gap, 2))] + LARGE[-2:]
         stream, plain = book(lock, password, records)
         starts, at = [], 0
@@ -377,7 +377,7 @@ for name, lock, password in ("XOR", XOR, XOR.passwords(15)[0]), ("XOR, one chara
     opened(f"{name}, four blocks", lock, password, records)
     refused(f"{name}, four blocks, another password", stream, 27, password=password + "x" if len(password) < 15 else password[:-1])
 
-# what opening takes: the stream's length about a block's end, clear parts of every length, no enciphered byte at all, one, and a second FILEPASS
+# what opening takes: the stream's length near a block's end, clear parts of every length, no enciphered byte at all, one, and a second FILEPASS
 for name, lock in ("XOR", XOR), ("1.1", Office97()), ("CryptoAPI", CryptoApi()):
     password = XOR.passwords(8)[0]
     for length in 1023, 1024, 1025, 2047, 2048, 2049:
@@ -395,7 +395,7 @@ for name, lock in ("XOR", XOR), ("1.1", Office97()), ("CryptoAPI", CryptoApi()):
 for bits in 48, *range(64, 128, 8):
     opened(f"CryptoAPI {bits}, three blocks", CryptoApi(bits), "Unruh 50°", SMALL[:-1] + [(0x00FD, some(2000, bits)), (EOF, b"")])
 
-# padding: every remainder of one to three bytes, of zeros and others, behind nothing, behind records, and where it is no remainder but part of a record
+# padding: every remainder of one to three bytes, of zeros and others, after nothing, after records, and where it is not a remainder but part of a record
 LOCKS = ("XOR", XOR), ("1.1", Office97()), ("CryptoAPI", CryptoApi(name=b""))
 RIGHT = XOR.passwords(8)[0]
 REMAINDERS = [bytes(r) for length in (1, 2, 3) for r in itertools.product(*((0, other) for other in (0x2F, 0x01, 0x80)[:length]))]
@@ -437,7 +437,7 @@ for padding in 1, 2, 3:
     refused(f"{padding} of padding, an output as long as the records", XOR_BOOK + more, 5, more=-padding)
     opened(f"{padding} of padding behind BOF and FILEPASS", LOCKS[1][1], RIGHT, SMALL[:2], padding=padding)
 
-# padding about a block's end
+# padding near a block's end
 for total, padding, (name, lock) in itertools.product(range(1023, 1027), (1, 2, 3), LOCKS):
     rest = total - padding - len(book(lock, RIGHT, SMALL + [(0x00FD, b"")])[0])
     records = SMALL + [(0x00FD, some(rest, total))]

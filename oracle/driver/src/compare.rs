@@ -7,7 +7,7 @@ use crate::port::{self, LONG_SCRATCH_LEN, PASSWORD_MAX_LEN, SCRATCH_LEN};
 use std::collections::BTreeMap;
 use std::time::{Duration, Instant};
 
-/// Bytes behind what is lent, which nobody may write to.
+/// Bytes after what is lent, which nobody may write to.
 const GUARD: usize = 64;
 /// How many differences are printed.
 const PRINTED: usize = 20;
@@ -30,7 +30,7 @@ pub struct Compare {
     /// How many of the looks are judged by MS-OFFCRYPTO 2.3.5.1 and not by the Rust.
     by_standard: u64,
     pairs: [u64; 2],
-    /// How many forecasts tell the counts, and how many refuse.
+    /// How many forecasts give the counts, and how many refuse.
     forecasts: [u64; 2],
     numbers: BTreeMap<u32, u64>,
     /// By lock, key bits and whether the summary is sealed.

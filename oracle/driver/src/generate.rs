@@ -86,7 +86,7 @@ pub fn random(seed: u64, index: u64) -> Case {
     case
 }
 
-/// What stands behind the last record: most often nothing, else one to three bytes, which are padding most often.
+/// What comes after the last record: usually nothing, else one to three bytes, which are usually padding.
 fn random_remainder(random: &mut Random) -> Vec<u8> {
     if !random.one_in(10) {
         return Vec::new();
@@ -104,7 +104,7 @@ pub fn xor_takes(password: &str) -> bool {
     (1..=15).contains(&password.chars().count()) && password.chars().all(|c| c as u32 <= 0xFF)
 }
 
-/// A short stream of bytes of the alphabet, behind a few records.
+/// A short stream of bytes of the alphabet, after a few records.
 fn noise(index: u64, random: &mut Random) -> Case {
     let mut stream = Vec::new();
     if !random.one_in(6) {

@@ -16,7 +16,7 @@ fn locks() -> [(&'static str, Lock); 3] {
 }
 
 /// A locked book of exactly this length: BOF, FILEPASS, and records of one id and body length, the last one shorter or longer.
-/// Bodies are random: whatever stands there deciphers to something.
+/// Bodies are random: any bytes decipher to something.
 fn book(lock: &Lock, len: usize, id: u16, body: usize) -> Vec<u8> {
     let mut random = Random::new(len as u64, body as u64);
     let mut stream = Vec::with_capacity(len + 1);

@@ -22,7 +22,7 @@ pub struct CryptoApi {
     pub alg_id_hash: u32,
     /// The key size as stated: 0 means 40.
     pub key_size: u32,
-    /// What stands in the header after its 32 fixed bytes.
+    /// What is in the header after its 32 fixed bytes.
     pub name: Vec<u8>,
 }
 

@@ -1,4 +1,4 @@
-//! Compares the port with the Rust source. See README.md beside the driver's folder.
+//! Compares the port with the Rust source. See README.md in the folder above.
 
 mod compare;
 mod generate;

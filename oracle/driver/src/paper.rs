@@ -20,7 +20,7 @@ pub fn u32_at(bytes: &[u8], at: usize) -> Option<u32> {
     Some(u32::from_le_bytes(bytes.get(at..at + 4)?.try_into().unwrap()))
 }
 
-/// A record: where its header stands, its id, and where its body starts and ends.
+/// A record: where its header is, its id, and where its body starts and ends.
 pub struct Record {
     pub at: usize,
     pub id: u16,
@@ -56,7 +56,7 @@ pub fn records(stream: &[u8]) -> impl Iterator<Item = Record> + '_ {
     })
 }
 
-/// How many bytes of padding a stream has: one to three behind the last record, all zero, or 0 where there is none (document 02, T-05).
+/// How many bytes of padding a stream has: one to three after the last record, all zero, or 0 where there is none (document 02, T-05).
 pub fn padding(stream: &[u8]) -> usize {
     let end = records(stream).last().map_or(0, |record| record.end);
     let rest = &stream[end..];

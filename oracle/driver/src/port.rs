@@ -2,7 +2,7 @@
 
 /// The scratch that Open asks for, and how much of it ends zero (document 02, T-06).
 pub const SCRATCH_LEN: usize = 64;
-/// A long scratch, as document 01 has it. T-06 wants the same answers of it, and all behind the first `SCRATCH_LEN` bytes as it was lent.
+/// A long scratch, as document 01 has it. T-06 wants the same answers for it, and everything after the first `SCRATCH_LEN` bytes as it was lent.
 pub const LONG_SCRATCH_LEN: usize = 2064;
 /// The most bytes of a password, and of a stream.
 pub const PASSWORD_MAX_LEN: usize = 1024;

@@ -1,4 +1,4 @@
-//! Writes a fixed list of cases with the oracle's answers, for a program that has no Rust beside it.
+//! Writes a fixed list of cases with the oracle's answers, for a program that runs without the Rust.
 
 use crate::generate::{self, Case};
 use crate::oracle;

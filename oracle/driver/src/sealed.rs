@@ -3,7 +3,7 @@
 use crate::oracle::{self, Answer};
 use crate::paper::{self, u32_at};
 
-/// What stands before the parts of a case: thirteen numbers, and salt and verifier.
+/// What comes before the parts of a case: thirteen numbers, and salt and verifier.
 const TERMS: usize = 13 * 4 + 2 * 16;
 
 /// A case of the program's data, as tools/make_sealings.py has it: the answer's number and facts, and five parts.
@@ -13,7 +13,7 @@ struct Case<'a> {
     parts: [&'a [u8]; 5],
 }
 
-/// Takes what stands behind its length off the front.
+/// Takes a part, which comes after its length, off the front.
 fn behind_length<'a>(data: &mut &'a [u8]) -> &'a [u8] {
     let len = u32_at(data, 0).expect("a length is cut short") as usize;
     let (part, rest) = data[4..].split_at(len);

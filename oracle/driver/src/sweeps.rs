@@ -21,7 +21,7 @@ pub fn all(give: &mut dyn FnMut(Case)) {
     padded_cap(give);
 }
 
-/// Every tail of up to 4 bytes of the alphabet, behind nothing, behind a BOF and perhaps one more record, and behind a BOF and the
+/// Every tail of up to 4 bytes of the alphabet, after nothing, after a BOF and perhaps one more record, and after a BOF and the
 /// start of a FILEPASS.
 fn exhaustive(give: &mut dyn FnMut(Case)) {
     let bof = vec![0x09, 0x08, 0, 0];
@@ -253,7 +253,7 @@ fn lendings(give: &mut dyn FnMut(Case)) {
 }
 
 /// Under each family, and CryptoAPI with 40 bits too: passwords of every length there is, of characters of one, two, three and four bytes, and of
-/// letters with one of four bytes behind them; and each with its last character changed. The longest of each also with every scratch of the list.
+/// letters with one of four bytes after them; and each with its last character changed. The longest of each also with every scratch of the list.
 fn texts(give: &mut dyn FnMut(Case)) {
     // the bytes of a character in UTF-8, the first such character, how many there are, and what is added
     const KINDS: [(usize, u32, u32, &str); 5] =
@@ -303,7 +303,7 @@ fn book_of_three(lock: &Lock, password: &str, len: usize, random: &mut Random) -
     (stream, plain)
 }
 
-/// Books whose FILEPASS stands around Look's cap, at every offset from well before to just behind, after clear records only.
+/// Books whose FILEPASS is around Look's cap, at every offset from well before to just after, with only clear records before it.
 fn around_cap(give: &mut dyn FnMut(Case)) {
     let mut random = Random::new(0, 1);
     let mut index = 0;
@@ -348,7 +348,7 @@ fn remainders() -> Vec<Vec<u8>> {
     remainders
 }
 
-/// Of each small book: every remainder, with the right password and a wrong one; and one to eight zeros behind it and behind every truncation.
+/// Of each small book: every remainder, with the right password and a wrong one; and one to eight zeros after it and after every truncation.
 fn padded(give: &mut dyn FnMut(Case)) {
     let mut index = 0;
     let mut next = |part: &'static str, stream: Vec<u8>, password: &str| {
@@ -411,7 +411,7 @@ fn padded_lendings(give: &mut dyn FnMut(Case)) {
     }
 }
 
-/// Padding around Look's cap, behind clear records, with a lock among them and without.
+/// Padding around Look's cap, after clear records, with a lock among them and without.
 fn padded_cap(give: &mut dyn FnMut(Case)) {
     let mut random = Random::new(0, 7);
     let mut index = 0;

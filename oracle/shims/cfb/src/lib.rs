@@ -1,7 +1,7 @@
 //! Stands in for the crate cfb: named streams in one file, which is a count (4 bytes, little-endian), then for each stream
-//! its name behind its length (4 bytes) and its data behind its length (8 bytes).
+//! its name after its length (4 bytes) and its data after its length (8 bytes).
 //! Left out: the compound file format itself with its sectors, directory tree and times; names are compared exactly.
-//! What is created or removed stands only in the list in memory: the file's own list is not rewritten.
+//! What is created or removed is only in the list in memory: the file's own list is not rewritten.
 
 use std::cell::RefCell;
 use std::io::{self, Read, Seek, SeekFrom, Write};
@@ -21,7 +21,7 @@ pub fn file_of(streams: &[(&str, &[u8])]) -> Vec<u8> {
     file
 }
 
-/// Where a stream's data stands in the file. A removed stream keeps its place without a name.
+/// Where a stream's data is in the file. A removed stream keeps its place without a name.
 struct Place {
     name: Vec<u8>,
     start: u64,
