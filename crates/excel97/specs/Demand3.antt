@@ -1,4 +1,4 @@
--- Demand 3, with document 02's T-05: two passwords can part what is seen only by whether the check passes. Over any two runs that the contract of `open` allows.
+-- Demand 3, with document 02's T-05: trying two passwords can only reveal whether each one is correct. Over any two runs that the contract of `open` allows.
 -- Assumes nothing.
 use mathlib.Core.Path.{_≡_}
 use Prim.Native.Nat.{ℕ, _+_, _≤_, _<_}
