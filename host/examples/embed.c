@@ -1,10 +1,11 @@
-/* Opens a locked workbook stream, seals it again under the same password and lock, and opens that, with static buffers and
- * no allocation.
+/* Opens a locked workbook stream, shows what it is, seals it again under the same password and lock, and opens that, with
+ * static buffers and no allocation.
  *
  *   gcc -Wl,-z,now -I include host/examples/embed.c target/staticlib/libsheet.a -o embed
  *   ./embed host/examples/calibres.bin < host/examples/calibres.password
  *
- * The password comes from standard input, one line of UTF-8. Exit status: 0 done, 1 refused, 2 not read or no random bytes.
+ * The password comes from standard input, one line of UTF-8, which ends with LF, CRLF or nothing. Exit status: 0 done,
+ * 1 refused, 2 not read or no random bytes.
  *
  * -z now has all functions bound at the start: bound at their first call, they would have the vector registers saved to the
  * stack, in which parts of what is to be wiped are left. */
@@ -13,23 +14,14 @@
 #include <string.h>
 #include <unistd.h>
 
-#include "sheet.h"
+#include "sheet_words.h"
 
 static uint8_t stream[1 << 16], plain[1 << 16], again[1 << 16];
-static uint8_t scratch[SHEET_SCRATCH_LEN], password[SHEET_PASSWORD_MAX_LEN + 1];
+static uint8_t scratch[SHEET_SCRATCH_LEN], password[SHEET_PASSWORD_MAX_LEN + 3];
 
-static const char *const words[33] = {
-    "done", "the password is too long", "the password is not UTF-8", "the scratch is too short", "the stream is too long",
-    "the output is too short", "a record is cut off", "this is no workbook stream", "the workbook is not locked",
-    "another record stands before the lock", "the FILEPASS record is cut off", "the lock is of an unknown kind",
-    "the lock's version is cut off", "the lock's version is not one that is read", "the 1.1 lock is cut off",
-    "the CryptoAPI lock is cut off", "its header has a wrong size", "its header is cut off", "it has a provider of its own",
-    "it says AES", "it does not say CryptoAPI", "its cipher is not RC4", "its hash is not SHA-1", "its key size is wrong",
-    "its verifier is cut off", "its salt is not 16 bytes", "its verifier's hash is not 20 bytes", "the password does not pass",
-    "a sheet's entry names no sheet", "BOF and EOF records do not pair up", "there is no zero record for the lock",
-    "the zero record's length does not fit the lock", "the password is not one that XOR takes"};
+static const char *const locks[] = {"XOR", "Office 97 RC4", "RC4 CryptoAPI"};
 
-/* Reads a file into a buffer. Answers how many bytes came, or -1 if it can't be read or does not fit. */
+/* Reads a file into a buffer. Returns how many bytes came, or -1 if it can't be read or fills the buffer. */
 static ssize_t read_all(int file, uint8_t *to, size_t room)
 {
     size_t len = 0;
@@ -56,18 +48,18 @@ __attribute__((noinline)) static uint32_t call_open(uint8_t *to, size_t len, siz
 
 /* Seals the plain stream into the stream's buffer, under a lock with a key size. Salt and verifier are 16 random bytes each.
  * CryptoAPI becomes version 4.2, and says that the document summary is not enciphered. */
-__attribute__((noinline)) static uint32_t call_seal(uint64_t lock, uint64_t key_size, const uint8_t fresh[32], size_t len,
+__attribute__((noinline)) static uint32_t call_seal(uint64_t lock, uint64_t key_bits, const uint8_t fresh[32], size_t len,
                                                     size_t password_len, uint64_t facts[8])
 {
     const uint8_t *salt = fresh, *verifier = fresh + 16;
     switch (lock) {
-    case 0:
+    case SHEET_LOCK_XOR:
         return sheet_seal_xor(plain, len, password, password_len, scratch, sizeof scratch, stream, sizeof stream, facts);
-    case 1:
+    case SHEET_LOCK_OFFICE97:
         return sheet_seal_office97(plain, len, password, password_len, salt, verifier, scratch, sizeof scratch, stream,
                                    sizeof stream, facts);
     default:
-        return sheet_seal_cryptoapi(plain, len, password, password_len, salt, verifier, 4, (uint32_t)key_size, scratch,
+        return sheet_seal_cryptoapi(plain, len, password, password_len, salt, verifier, 4, (uint32_t)key_bits, scratch,
                                     sizeof scratch, stream, sizeof stream, facts);
     }
 }
@@ -78,6 +70,16 @@ __attribute__((noinline)) static void scrub_stack(void)
     wipe(region, sizeof region);
 }
 
+/* Shows what was opened. */
+static void show(const uint64_t facts[8])
+{
+    printf("lock: %s, %llu bits\n", locks[facts[SHEET_REPORT_LOCK]], (unsigned long long)facts[SHEET_REPORT_KEY_BITS]);
+    printf("document summary: %s\n", facts[SHEET_REPORT_SUMMARY_SEALED] ? "enciphered too" : "not enciphered");
+    printf("%llu records, %llu bytes, %llu of them enciphered\n", (unsigned long long)facts[SHEET_REPORT_RECORDS],
+           (unsigned long long)facts[SHEET_REPORT_OUTPUT_BYTES],
+           (unsigned long long)facts[SHEET_REPORT_ENCIPHERED_BODY_BYTES]);
+}
+
 int main(int count, char **arguments)
 {
     uint64_t facts[8];
@@ -85,11 +87,16 @@ int main(int count, char **arguments)
     ssize_t len = read_all(count == 2 ? open(arguments[1], O_RDONLY) : -1, stream, sizeof stream);
     ssize_t password_len = len < 0 ? -1 : read_all(STDIN_FILENO, password, sizeof password);
     if (password_len < 0) {
-        fprintf(stderr, "usage: embed FILE < PASSWORD, of at most %zu and %zu bytes\n", sizeof stream - 1, sizeof password - 1);
+        fprintf(stderr, "usage: embed FILE < PASSWORD, of at most %zu and %d bytes\n", sizeof stream - 1,
+                SHEET_PASSWORD_MAX_LEN);
         return 2;
     }
-    if (password_len > 0 && password[password_len - 1] == '\n')
+    /* One newline is not part of the password, LF or CRLF. */
+    if (password_len > 0 && password[password_len - 1] == '\n') {
         password_len--;
+        if (password_len > 0 && password[password_len - 1] == '\r')
+            password_len--;
+    }
     /* Salt and verifier come from the system's random source, anew for each sealing. */
     if (getentropy(fresh, sizeof fresh) != 0) {
         wipe(password, sizeof password);
@@ -98,23 +105,24 @@ int main(int count, char **arguments)
     }
     uint32_t number = call_open(plain, (size_t)len, (size_t)password_len, facts);
     scrub_stack();
-    if (number == 0) {
-        number = call_seal(facts[1], facts[2], fresh, (size_t)len, (size_t)password_len, facts);
+    if (number == SHEET_DONE) {
+        show(facts);
+        number = call_seal(facts[SHEET_REPORT_LOCK], facts[SHEET_REPORT_KEY_BITS], fresh, (size_t)len, (size_t)password_len,
+                           facts);
         scrub_stack();
     }
-    if (number == 0) {
+    if (number == SHEET_DONE) {
         number = call_open(again, (size_t)len, (size_t)password_len, facts);
         scrub_stack();
     }
     wipe(password, sizeof password);
     wipe(fresh, sizeof fresh);
-    if (number != 0) {
-        fprintf(stderr, "refused, %u: %s (%llu, %llu)\n", number, number < 33 ? words[number] : "see sheet.h",
-                (unsigned long long)facts[0], (unsigned long long)facts[1]);
+    if (number != SHEET_DONE) {
+        fprintf(stderr, "refused, %u: %s (%llu, %llu)\n", number, sheet_refusal_words(number),
+                (unsigned long long)facts[SHEET_DETAIL_1], (unsigned long long)facts[SHEET_DETAIL_2]);
         return 1;
     }
     int same = memcmp(plain, again, (size_t)len) == 0;
-    printf("%llu records\n", (unsigned long long)facts[0]);
     printf("sealed and opened again: %s\n", same ? "the same" : "another stream");
     return same ? 0 : 1;
 }

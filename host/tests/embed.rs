@@ -11,6 +11,7 @@ use common::book::{header, Book, Kind, BOF, FILEPASS, KINDS, ROW};
 use common::folder::Folder;
 use common::process;
 use common::sealing::sheet_with;
+use sheet::Refusal;
 
 /// A file of this crate.
 fn file(path: &str) -> PathBuf {
@@ -43,7 +44,10 @@ fn words(bytes: &[u8]) -> &str {
 }
 
 /// What the example prints of the sample.
-const SAMPLE: &str = "186 records\nsealed and opened again: the same\n";
+const SAMPLE: &str = "lock: RC4 CryptoAPI, 128 bits\n\
+    document summary: not enciphered\n\
+    186 records, 3435 bytes, 2533 of them enciphered\n\
+    sealed and opened again: the same\n";
 
 #[test]
 fn the_c_example_opens_the_sample_and_seals_it() {
@@ -64,12 +68,21 @@ fn the_c_example_opens_the_sample_and_seals_it() {
         let refused = run(&program, &stream, &wrong);
         assert_eq!(refused.status.code(), Some(1));
         let said = words(&refused.stderr);
-        assert_eq!(said, "refused, 27: the password does not pass (0, 0)\n");
+        assert_eq!(said, "refused, 27: the password is not correct (0, 0)\n");
 
         let refused = run(&program, &cut, &password);
         assert_eq!(refused.status.code(), Some(1));
         let said = words(&refused.stderr);
-        assert_eq!(said, "refused, 6: a record is cut off (20, 0)\n");
+        let meaning = Refusal::from_number(6, [20, 0]).meaning();
+        assert_eq!(said, format!("refused, 6: {meaning} (20, 0)\n"));
+
+        // A newline of either kind, or none, ends the password; a second one is part of it.
+        let text = fs::read(&password).unwrap();
+        let bare = text.strip_suffix(b"\n").unwrap();
+        for (end, code) in [("", 0), ("\r\n", 0), ("\n\n", 1), ("\r", 1)] {
+            let ended = folder.write("ended", &[bare, end.as_bytes()].concat());
+            assert_eq!(run(&program, &stream, &ended).status.code(), Some(code));
+        }
 
         for (stream, password) in [(&folder.join("none"), &password), (&stream, &long)] {
             let unread = run(&program, stream, password);
@@ -105,8 +118,20 @@ fn the_c_example_seals_under_the_lock_that_it_opened() {
         let password = folder.write("password", book.password.as_bytes());
         let ran = run(&program, &stream, &password);
         assert_eq!(ran.status.code(), Some(0), "{}", words(&ran.stderr));
-        let records = book.headers.len();
-        let expected = format!("{records} records\nsealed and opened again: the same\n");
+        let report = book.report_in(book.locked.len());
+        let expected = format!(
+            "lock: {}, {} bits\ndocument summary: {}\n{} records, {} bytes, {} of them enciphered\n\
+             sealed and opened again: the same\n",
+            report.lock,
+            report.key_bits.unwrap_or(0),
+            match report.summary_sealed {
+                true => "enciphered too",
+                false => "not enciphered",
+            },
+            report.records,
+            report.output_bytes,
+            report.enciphered_body_bytes
+        );
         assert_eq!(words(&ran.stdout), expected, "{kind:?}");
     }
     // A lock with bytes behind it opens, and leaves a record that is too long for this lock.
@@ -115,8 +140,10 @@ fn the_c_example_seals_under_the_lock_that_it_opened() {
     let stream = folder.write("book", &stream);
     let ran = run(&program, &stream, &folder.write("password", b"A\n"));
     assert_eq!(ran.status.code(), Some(1));
-    let said = "refused, 31: the zero record's length does not fit the lock (7, 0)\n";
-    assert_eq!((words(&ran.stdout), words(&ran.stderr)), ("", said));
+    let meaning = Refusal::ZeroRecordLength { len: 7 }.meaning();
+    let said = format!("refused, 31: {meaning} (7, 0)\n");
+    assert_eq!(words(&ran.stderr), said);
+    assert!(!words(&ran.stdout).contains("sealed and opened again"));
 }
 
 /// Seals a plain stream from standard input under each lock, and prints the answers and all eight
