@@ -47,12 +47,12 @@ pub struct Directory {
 /// A [`Refusal`], for the first of these that applies: 4, 6, 7, 28 and 29.
 pub fn directory(stream: &[u8], place: usize) -> Result<Directory, Refusal> {
     let mut facts = [0; 8];
-    // SAFETY: a slice's pointer is not null, also where it is empty, and points to `len` bytes;
-    // `facts` is a local of eight numbers, which overlaps nothing. Any place may be asked for.
+    // SAFETY: a slice's pointer points to `len` bytes; `facts` is a local of eight numbers, which
+    // overlaps nothing. Any place may be asked for.
     let number = unsafe { ffi::sheet_directory(stream.as_ptr(), stream.len(), place, &mut facts) };
     let [first, second, start, ..] = facts;
     if number != 0 {
-        return Err(Refusal::new(number, [first, second]));
+        return Err(Refusal::from_number(number, [first, second]));
     }
     Ok(Directory {
         // No more than the stream has bytes.

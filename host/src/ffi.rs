@@ -1,8 +1,8 @@
 //! The C interface of the proved library, as `include/sheet.h` declares it.
 //!
-//! Every function asks the same of its caller: a pointer with a length points to that many bytes
-//! and is not null; what is written (`scratch`, `output`, `facts`) overlaps nothing else of the
-//! call, and no other thread writes to what is lent.
+//! Every function asks the same of its caller: a pointer with a length points to that many bytes;
+//! what is written (`scratch`, `output`, `facts`) overlaps nothing else of the call; and no other
+//! thread writes to the memory of a call while it runs.
 
 extern "C" {
     pub fn sheet_look(stream: *const u8, stream_len: usize, facts: *mut [u64; 8]) -> u32;

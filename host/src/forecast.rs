@@ -48,12 +48,12 @@ pub struct Forecast {
 /// and the buffers suffice.
 pub fn forecast(stream: &[u8]) -> Result<Forecast, Refusal> {
     let mut facts = [0; 8];
-    // SAFETY: a slice's pointer is not null, also where it is empty, and points to `len` bytes;
-    // `facts` is a local of eight numbers, which overlaps nothing.
+    // SAFETY: a slice's pointer points to `len` bytes; `facts` is a local of eight numbers, which
+    // overlaps nothing.
     let number = unsafe { ffi::sheet_forecast(stream.as_ptr(), stream.len(), &mut facts) };
     let [first, second, enciphered, keys, ..] = facts;
     if number != 0 {
-        return Err(Refusal::new(number, [first, second]));
+        return Err(Refusal::from_number(number, [first, second]));
     }
     // None is more than the stream has bytes.
     Ok(Forecast {

@@ -1,12 +1,15 @@
 //! Open: the plain stream of a locked workbook.
 
-use std::fmt;
+use core::fmt;
+
+#[cfg(feature = "alloc")]
+use alloc::{vec, vec::Vec};
 
 use crate::ffi;
 use crate::refusal::Refusal;
 use crate::scrub::scrub;
 
-/// The scratch that [`open`] and [`seal`](crate::seal()) ask for, in bytes. A longer one is fine.
+/// The bytes of scratch that [`open`] and [`seal`](crate::seal()) need. A longer one is fine.
 pub const SCRATCH_LEN: usize = 64;
 
 /// The most bytes of a password.
@@ -20,7 +23,7 @@ pub const STREAM_MAX_LEN: usize = 1 << 30;
 pub enum Lock {
     /// XOR obfuscation.
     Xor,
-    /// Office 97 RC4, version 1.1.
+    /// Office 97 RC4, version 1.1, whose keys have 40 bits.
     Office97,
     /// RC4 CryptoAPI, version 2.2, 3.2 or 4.2.
     CryptoApi,
@@ -36,18 +39,18 @@ impl fmt::Display for Lock {
     }
 }
 
-/// What is told of a stream that was opened, or of one that was sealed and will be opened.
+/// The report of a stream that was opened, or of one that was sealed and will be opened.
 ///
-/// The records and the last three are what [`forecast`](crate::forecast()) tells beforehand.
+/// The records and the last three are what [`forecast`](crate::forecast()) gives beforehand.
 #[derive(Clone, Copy, Debug, PartialEq, Eq)]
 pub struct Report {
     /// How many records the stream has.
     pub records: usize,
     /// The lock.
     pub lock: Lock,
-    /// The key size in bits: 0 for XOR, 40 for Office 97 RC4.
-    pub key_bits: u32,
-    /// Whether the document summary, which stands outside the stream, is enciphered too.
+    /// The key size in bits: 40 for Office 97 RC4, none for XOR.
+    pub key_bits: Option<u32>,
+    /// Whether the document summary, which is not in this stream, is enciphered too.
     pub summary_sealed: bool,
     /// How many bytes of output an opening writes: the stream's length.
     pub output_bytes: usize,
@@ -62,21 +65,18 @@ pub struct Report {
 /// Opens a locked workbook stream.
 ///
 /// The password is UTF-8. The output has room for the stream, and on success
-/// `output[..stream.len()]` is the plain stream, in which every record stands where it stood and
-/// padding, one to three zero bytes behind the last record, comes through; the rest of the output
-/// is as it was. On a refusal the whole output is as it was. The scratch has [`SCRATCH_LEN`] bytes
-/// or more. Its first [`SCRATCH_LEN`] bytes end zero, save on refusals 1 to 5, which leave it as it
-/// was; the rest is as it was, however long it is.
-///
-/// No two of the four can overlap where one is written: the borrow rules admit nothing else beside
-/// a `&mut [u8]`.
+/// `output[..stream.len()]` is the plain stream, in which every record is where it was and padding,
+/// one to three zero bytes after the last record, is unchanged; so is the rest of the output. On a
+/// refusal the whole output is unchanged. The scratch has [`SCRATCH_LEN`] bytes or more. Its first
+/// [`SCRATCH_LEN`] bytes end zero, except on refusals 1 to 5, which leave it unchanged; the rest is
+/// unchanged, however long it is. [`open_to_vec`] takes care of both.
 ///
 /// What the call leaves of the password in registers and on the stack is overwritten before this
-/// returns, for which the thread needs 16 KiB of stack. The caller's own copy stays: [`Secret`](crate::Secret) is one
-/// that wipes itself.
+/// returns, for which the thread needs 16 KiB of stack. The caller's own copy stays: `Secret`, with
+/// the feature `std`, is one that wipes itself.
 ///
 /// ```
-/// use sheet::{open, Lock, SCRATCH_LEN};
+/// use sheet::{open, Lock, Refusal, SCRATCH_LEN};
 ///
 /// # fn main() -> Result<(), Box<dyn std::error::Error>> {
 /// let stream = std::fs::read("examples/calibres.bin")?;
@@ -84,11 +84,12 @@ pub struct Report {
 /// let mut plain = vec![0; stream.len()];
 ///
 /// let refusal = open(&stream, b"Hebungswinkel 52", &mut scratch, &mut plain).unwrap_err();
+/// assert_eq!(refusal, Refusal::WrongPassword);
 /// assert_eq!(refusal.number(), 27);
 ///
 /// let password = "Hebungswinkel 50°".as_bytes();
 /// let report = open(&stream, password, &mut scratch, &mut plain)?;
-/// assert_eq!(report.lock, Lock::CryptoApi);
+/// assert_eq!((report.lock, report.key_bits), (Lock::CryptoApi, Some(128)));
 /// assert_eq!(report.records, 186);
 /// assert_eq!(&plain[..4], [0x09, 0x08, 0x10, 0x00]);
 /// # Ok(())
@@ -110,11 +111,44 @@ pub fn open(
     answer(number, facts)
 }
 
-/// What a number and its facts say, of an opening or a sealing.
+/// Opens a locked workbook stream into a vector of its own.
+///
+/// As [`open`], with a scratch and an output that are made here.
+///
+/// ```
+/// # fn main() -> Result<(), Box<dyn std::error::Error>> {
+/// let stream = std::fs::read("examples/calibres.bin")?;
+/// let (plain, report) = sheet::open_to_vec(&stream, "Hebungswinkel 50°".as_bytes())?;
+/// assert_eq!(plain.len(), report.output_bytes);
+/// # Ok(())
+/// # }
+/// ```
+///
+/// # Errors
+///
+/// A [`Refusal`]; 3 and 5 can't occur.
+#[cfg(feature = "alloc")]
+pub fn open_to_vec(stream: &[u8], password: &[u8]) -> Result<(Vec<u8>, Report), Refusal> {
+    let mut scratch = [0; SCRATCH_LEN];
+    let mut plain = room(stream);
+    let report = open(stream, password, &mut scratch, &mut plain)?;
+    Ok((plain, report))
+}
+
+/// An output for a stream. One that is too long is refused before its output is looked at.
+#[cfg(feature = "alloc")]
+pub fn room(stream: &[u8]) -> Vec<u8> {
+    match stream.len() {
+        len @ 0..=STREAM_MAX_LEN => vec![0; len],
+        _ => Vec::new(),
+    }
+}
+
+/// The report or the refusal of an opening or a sealing, from its number and facts.
 pub fn answer(number: u32, facts: [u64; 8]) -> Result<Report, Refusal> {
     let [first, second, key_bits, sealed, output_bytes, enciphered, keys, _] = facts;
     if number != 0 {
-        return Err(Refusal::new(number, [first, second]));
+        return Err(Refusal::from_number(number, [first, second]));
     }
     Ok(Report {
         // No more than the stream has bytes.
@@ -125,7 +159,7 @@ pub fn answer(number: u32, facts: [u64; 8]) -> Result<Report, Refusal> {
             _ => Lock::CryptoApi,
         },
         // At most 128.
-        key_bits: key_bits as u32,
+        key_bits: (key_bits != 0).then_some(key_bits as u32),
         summary_sealed: sealed == 1,
         // None of the three is more than the stream has bytes.
         output_bytes: output_bytes as usize,
@@ -144,7 +178,7 @@ fn call(
     output: &mut [u8],
     facts: &mut [u64; 8],
 ) -> u32 {
-    // SAFETY: a slice's pointer is not null, also where it is empty, and points to `len` bytes.
+    // SAFETY: a slice's pointer points to `len` bytes.
     // What is written is borrowed by `&mut`, so it overlaps nothing else here, and what is read by
     // `&`, so no other thread writes to it.
     unsafe {

@@ -1,9 +1,9 @@
 //! The records of a stream.
 
-use std::error::Error;
-use std::fmt;
-use std::iter::FusedIterator;
-use std::ops::Range;
+use core::error::Error;
+use core::fmt;
+use core::iter::FusedIterator;
+use core::ops::Range;
 
 use crate::ffi;
 
@@ -92,8 +92,8 @@ impl Iterator for Records<'_> {
             return None;
         }
         let mut facts = [0; 8];
-        // SAFETY: a slice's pointer is not null, also where it is empty, and points to `len` bytes;
-        // `facts` is a local of eight numbers, which overlaps nothing. Any offset may be asked for.
+        // SAFETY: a slice's pointer points to `len` bytes; `facts` is a local of eight numbers, which
+        // overlaps nothing. Any offset may be asked for.
         let answer = unsafe {
             ffi::sheet_record(self.stream.as_ptr(), self.stream.len(), self.at, &mut facts)
         };

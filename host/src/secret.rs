@@ -4,9 +4,12 @@ use std::fmt;
 use std::io::{self, Read};
 use std::sync::atomic::{compiler_fence, Ordering};
 
+use std::vec;
+use std::vec::Vec;
+
 use crate::open::PASSWORD_MAX_LEN;
 
-/// Room for the longest password, a CRLF behind it, and one byte more that shows that it is longer.
+/// Room for the longest password, a CRLF after it, and one byte more that shows that it is longer.
 const ROOM: usize = PASSWORD_MAX_LEN + 3;
 
 /// The bytes of a password, wiped when they are dropped.
@@ -121,6 +124,7 @@ impl fmt::Debug for Secret {
 #[cfg(test)]
 mod tests {
     use super::*;
+    use std::format;
 
     /// A source that gives one byte a read.
     struct Slow<'a>(&'a [u8]);

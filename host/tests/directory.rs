@@ -28,7 +28,7 @@ fn told(sheets: usize, start: Option<usize>) -> Result<Directory, Refusal> {
 }
 
 fn refused(number: u32, detail: usize) -> Result<Directory, Refusal> {
-    Err(Refusal::new(number, [detail as u64, 0]))
+    Err(Refusal::from_number(number, [detail as u64, 0]))
 }
 
 /// Sees that the sheets start here, and that there are no others.

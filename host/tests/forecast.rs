@@ -359,10 +359,10 @@ fn a_stream_of_a_gibibyte() {
         for len in [STREAM_MAX_LEN + 4, STREAM_MAX_LEN + 1] {
             assert_eq!(bare::forecast(&stream[..len]), (4, [0; 8]));
             assert_eq!(sheet::forecast(&stream[..len]), refused(4, [0, 0]));
-            assert_eq!(open(len), Some(Refusal::new(4, [0, 0])));
+            assert_eq!(open(len), Some(Refusal::from_number(4, [0, 0])));
         }
         assert_eq!(sheet::forecast(&stream[..STREAM_MAX_LEN]), expected);
-        let refusal = expected.err().unwrap_or(Refusal::new(27, [0, 0]));
+        let refusal = expected.err().unwrap_or(Refusal::from_number(27, [0, 0]));
         assert_eq!(open(STREAM_MAX_LEN), Some(refusal));
     };
     at_both_sides(&stream, refused(7, [0, 0]));
@@ -424,7 +424,7 @@ fn expected(stream: &[u8]) -> Result<Forecast, Refusal> {
 /// Whether a lock is XOR, or its refusal.
 fn expected_lock(body: &[u8]) -> Result<bool, Refusal> {
     let no = |number, first: usize, second: usize| {
-        Err(Refusal::new(number, [first as u64, second as u64]))
+        Err(Refusal::from_number(number, [first as u64, second as u64]))
     };
     let word =
         |bytes: &[u8], at: usize| usize::from(u16::from_le_bytes([bytes[at], bytes[at + 1]]));
@@ -531,7 +531,7 @@ fn random_streams_are_answered_as_the_documents_say() {
         stream.resize(stream.len() + zeros, 0);
         let answer = forecast(&stream);
         assert_eq!(answer, expected(&stream), "{stream:02x?}");
-        let refusal = answer.err().unwrap_or(Refusal::new(27, [0, 0]));
+        let refusal = answer.err().unwrap_or(Refusal::from_number(27, [0, 0]));
         assert_eq!(open(&stream, b""), Err(refusal), "{stream:02x?}");
         *counts.entry(refusal.number()).or_insert(0) += 1;
         padded += usize::from(answer.is_ok() && zeros > 0);

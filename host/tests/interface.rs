@@ -1,5 +1,5 @@
-//! The four texts that must agree: the Rattle signatures, the C header, the Rust declarations, and
-//! the words of the refusals.
+//! The texts that must agree: the Rattle signatures and refusals, the C header and its words, the Rust
+//! declarations and the Rust words.
 
 mod common;
 
@@ -7,6 +7,7 @@ use std::fs;
 use std::path::Path;
 use std::process::{Command, Stdio};
 
+use common::folder::Folder;
 use common::process::run;
 use sheet::Refusal;
 
@@ -54,13 +55,19 @@ fn between<'a>(text: &'a str, from: &str, to: &str) -> Option<(&'a str, &'a str)
     rest.split_once(to)
 }
 
-/// The declarations of the C header, without its comments.
-fn header_functions() -> Vec<Function> {
+/// The C header without its comments.
+fn header_code() -> String {
     let mut header = text("../include/sheet.h");
     while let Some(start) = header.find("/*") {
         let end = start + header[start..].find("*/").expect("a comment's end") + 2;
         header.replace_range(start..end, " ");
     }
+    header
+}
+
+/// The declarations of the C header.
+fn header_functions() -> Vec<Function> {
+    let header = header_code();
     let lines = header
         .lines()
         .filter(|line| !line.trim_start().starts_with('#') && !line.contains("extern \"C\""));
@@ -71,6 +78,8 @@ fn header_functions() -> Vec<Function> {
         .map(|declaration| {
             let (head, rest) = declaration.split_once('(').unwrap();
             let (answer, name) = head.trim().rsplit_once(' ').unwrap();
+            // The compiler warns where the result of any of them is ignored.
+            let (_, answer) = answer.split_once("SHEET_MUST_CHECK ").expect(name);
             let parameters = rest.trim_end().strip_suffix(')').unwrap();
             Function {
                 name: name.to_string(),
@@ -260,22 +269,78 @@ fn the_constants_agree() {
     for (name, value) in [
         ("SHEET_SCRATCH_LEN", sheet::SCRATCH_LEN),
         ("SHEET_PASSWORD_MAX_LEN", sheet::PASSWORD_MAX_LEN),
+        ("SHEET_STREAM_MAX_LEN", sheet::STREAM_MAX_LEN),
     ] {
         let line = format!("#define {name} {value}\n");
         assert!(header.contains(&line), "{line}");
     }
     assert_eq!(sheet::STREAM_MAX_LEN, 1_073_741_824);
+    let version = env!("CARGO_PKG_VERSION");
+    let numbers: Vec<u32> = version.split('.').map(|n| n.parse().unwrap()).collect();
+    let number = numbers[0] * 10_000 + numbers[1] * 100 + numbers[2];
+    assert!(header.contains(&format!("#define SHEET_VERSION \"{version}\"\n")));
+    assert!(header.contains(&format!("#define SHEET_VERSION_NUMBER {number}\n")));
+    let changes = text("../CHANGELOG.md");
+    let first = changes
+        .lines()
+        .find(|line| line.starts_with("## "))
+        .unwrap();
+    assert!(first.starts_with(&format!("## {version}")), "{first}");
 }
 
-/// The header's list of refusals: number and words.
-fn header_refusals() -> Vec<(u32, String)> {
-    let header = text("../include/sheet.h");
-    let (list, _) = between(&header, "/* The refusals: ", "*/").expect("a list of refusals");
-    list.lines()
-        .filter_map(|line| {
-            let (number, words) = line.strip_prefix(" *")?.trim().split_once("  ")?;
-            Some((number.parse().ok()?, words.trim().to_string()))
+/// The enumerators of an enum of the header: name and value.
+fn enumerators(name: &str) -> Vec<(String, u32)> {
+    let header = header_code();
+    let (body, _) = between(&header, &format!("enum {name} {{"), "}").expect(name);
+    body.split(',')
+        .map(|part| {
+            let (name, value) = part.trim().split_once(" = ").unwrap();
+            (name.to_string(), value.parse().unwrap())
         })
+        .collect()
+}
+
+/// The header's list of refusals: number, name and the comment before it.
+fn header_refusals() -> Vec<(u32, String, String)> {
+    let header = text("../include/sheet.h");
+    let (list, _) = between(&header, "SHEET_DONE = 0,", "};").expect("a list of refusals");
+    list.split("/*")
+        .skip(1)
+        .map(|part| {
+            let (words, rest) = part.split_once("*/").unwrap();
+            let (name, number) = rest.trim().split_once(" = ").unwrap();
+            let name = name.strip_prefix("SHEET_REFUSED_").unwrap();
+            let number = number.trim_end_matches(',').parse().unwrap();
+            (
+                number,
+                name.to_string(),
+                squeezed(&words.replace("\n     * ", " ")),
+            )
+        })
+        .collect()
+}
+
+/// A name in capitals, with underscores between its words.
+fn in_capitals(name: &str) -> String {
+    let mut capitals = String::new();
+    for (k, letter) in name.char_indices() {
+        if letter.is_ascii_uppercase() && k > 0 {
+            capitals.push('_');
+        }
+        capitals.push(letter.to_ascii_uppercase());
+    }
+    capitals
+}
+
+/// The cases of the refusals in the Rattle crate, in their order.
+fn rattle_refusals() -> Vec<String> {
+    let source = text("../crates/file_params/src/lib.rt");
+    let (cases, _) = between(&source, "pub enum Refusal {", "\n}").unwrap();
+    cases
+        .split(",\n")
+        .map(|case| case.trim().trim_end_matches(','))
+        .map(|case| case.split('(').next().unwrap().to_string())
+        .filter(|case| !case.is_empty())
         .collect()
 }
 
@@ -288,18 +353,61 @@ fn refusals_table() -> String {
 }
 
 #[test]
-fn every_refusal_has_words() {
+fn every_refusal_has_one_name_and_one_number() {
+    let rattle = rattle_refusals();
+    assert_eq!(rattle.len(), 32);
     let header = header_refusals();
-    let numbers: Vec<u32> = header.iter().map(|(number, _)| *number).collect();
-    let all: Vec<u32> = (1..=sheet::REFUSALS).collect();
-    assert_eq!(all.len(), 32);
-    assert_eq!(numbers, all);
+    assert_eq!(header.len(), 32);
+    let all: Vec<Refusal> = Refusal::all().collect();
+    assert_eq!((all.len(), sheet::REFUSALS), (32, 32));
+    for (k, refusal) in all.iter().enumerate() {
+        let number = k as u32 + 1;
+        let name = format!("{refusal:?}");
+        let name = name.split(' ').next().unwrap();
+        assert_eq!(name, rattle[k]);
+        assert_eq!(
+            (header[k].0, &header[k].1[..]),
+            (number, &in_capitals(name)[..])
+        );
+        assert_eq!(refusal.number(), number);
+        assert_eq!(Refusal::from_number(number, refusal.details()), *refusal);
+    }
+    assert_eq!(enumerators("sheet_refusal").len(), 33);
+}
+
+#[test]
+fn numbers_and_details_that_no_library_gives_are_kept() {
+    for (number, details) in [
+        (0, [0, 0]),
+        (33, [5, 6]),
+        (u32::MAX, [0, 0]),
+        (27, [1, 0]),
+        (6, [1, 1]),
+        (9, [0x1_0000, 0]),
+        (12, [3, 5]),
+        (16, [1 << 32, 0]),
+    ] {
+        let refusal = Refusal::from_number(number, details);
+        assert_eq!(refusal, Refusal::Unknown { number, details });
+        assert_eq!((refusal.number(), refusal.details()), (number, details));
+        let said = refusal.to_string();
+        assert!(said.starts_with(&format!("refused, {number}: ")), "{said}");
+        let [first, second] = details;
+        assert!(
+            said.contains(&format!("details {first} and {second}")),
+            "{said}"
+        );
+    }
+}
+
+#[test]
+fn every_refusal_has_the_same_words_everywhere() {
     let table = refusals_table();
     assert_eq!(table.lines().count(), 32);
-    let unknown = Refusal::new(99, [0, 0]);
-    for (line, (number, words)) in table.lines().zip(&header) {
-        assert!(words.len() > 10, "sheet.h: {number} {words}");
-        let refusal = Refusal::new(*number, [0, 0]);
+    let unknown = Refusal::from_number(99, [0, 0]);
+    for ((line, refusal), (number, _, comment)) in
+        table.lines().zip(Refusal::all()).zip(header_refusals())
+    {
         assert_ne!(refusal.meaning(), unknown.meaning(), "{number}");
         assert_ne!(refusal.advice(), unknown.advice(), "{number}");
         let said = refusal.to_string();
@@ -307,16 +415,126 @@ fn every_refusal_has_words() {
         assert!(said.ends_with(refusal.advice()));
         let words = format!("{number}\t{}; {}", refusal.meaning(), refusal.advice());
         assert!(line.starts_with(&words), "{line}");
+        // The header's comment has the details in square brackets behind the words, and writes flags
+        // as C does.
+        let words = comment.split(" [").next().unwrap();
+        assert_eq!(words.replace("flag 0x", "flag "), refusal.meaning());
     }
 }
 
+/// Prints the words of the numbers 0 to 33.
+const WORDS: &str = r#"
+#include <stdio.h>
+#include "sheet_words.h"
+
+int main(void)
+{
+    for (uint32_t number = 0; number < 34; number++)
+        printf("%s\n", sheet_refusal_words(number));
+    return 0;
+}
+"#;
+
 #[test]
-fn the_words_of_3_name_64_bytes() {
-    let words = "the scratch is shorter than 64 bytes";
-    assert_eq!(header_refusals()[2], (3, words.to_string()));
-    assert_eq!(Refusal::new(3, [0, 0]).meaning(), words);
-    let line = format!("\n3\t{words}; ");
-    assert!(refusals_table().contains(&line));
+fn the_words_for_c_are_those_of_the_command() {
+    let folder = Folder::new();
+    let source = folder.write("words.c", WORDS.as_bytes());
+    let program = folder.join("words");
+    let mut gcc = Command::new("gcc");
+    // No archive is linked: the words are in the header alone.
+    gcc.args([
+        "-std=c99",
+        "-Wall",
+        "-Wextra",
+        "-Wpedantic",
+        "-Werror",
+        "-I",
+    ])
+    .arg(Path::new(env!("CARGO_MANIFEST_DIR")).join("../include"))
+    .arg(&source)
+    .arg("-o")
+    .arg(&program)
+    .stdin(Stdio::null());
+    let compiled = run(&mut gcc);
+    assert!(compiled.status.success());
+    let ran = run(Command::new(&program).stdin(Stdio::null()));
+    let printed = String::from_utf8(ran.stdout).unwrap();
+    let lines: Vec<&str> = printed.lines().collect();
+    assert_eq!((lines.len(), lines[0]), (34, "done"));
+    for refusal in Refusal::all() {
+        assert_eq!(lines[refusal.number() as usize], refusal.meaning());
+    }
+    assert!(lines[33].contains("no words"));
+}
+
+#[test]
+fn the_facts_have_the_places_that_the_wrapper_reads() {
+    for (name, expected) in [
+        ("sheet_detail", &["DETAIL_1", "DETAIL_2"][..]),
+        (
+            "sheet_look_result",
+            &["LOOK_UNKNOWN", "LOOK_NO", "LOOK_YES"],
+        ),
+        (
+            "sheet_look_fact",
+            &[
+                "LOOK_XOR",
+                "LOOK_HAS_VERSION",
+                "LOOK_MAJOR",
+                "LOOK_MINOR",
+                "LOOK_KEY_BITS",
+            ],
+        ),
+        (
+            "sheet_record_result",
+            &["RECORD_END", "RECORD_FOUND", "RECORD_UNREADABLE"],
+        ),
+        (
+            "sheet_directory_fact",
+            &["DIRECTORY_SHEETS", "DIRECTORY_HAS_START", "DIRECTORY_START"],
+        ),
+        (
+            "sheet_forecast_fact",
+            &[
+                "FORECAST_OUTPUT_BYTES",
+                "FORECAST_RECORDS",
+                "FORECAST_ENCIPHERED_BODY_BYTES",
+                "FORECAST_BLOCK_KEYS",
+            ],
+        ),
+        (
+            "sheet_report_fact",
+            &[
+                "REPORT_RECORDS",
+                "REPORT_LOCK",
+                "REPORT_KEY_BITS",
+                "REPORT_SUMMARY_SEALED",
+                "REPORT_OUTPUT_BYTES",
+                "REPORT_ENCIPHERED_BODY_BYTES",
+                "REPORT_BLOCK_KEYS",
+            ],
+        ),
+        (
+            "sheet_lock",
+            &["LOCK_XOR", "LOCK_OFFICE97", "LOCK_CRYPTOAPI"],
+        ),
+    ] {
+        let expected: Vec<(String, u32)> = (0..)
+            .zip(expected)
+            .map(|(place, name)| (format!("SHEET_{name}"), place))
+            .collect();
+        assert_eq!(enumerators(name), expected);
+    }
+    let record = [
+        ("SHEET_RECORD_AT", 0),
+        ("SHEET_RECORD_ID", 0),
+        ("SHEET_RECORD_BODY_LEN", 1),
+        ("SHEET_RECORD_CLEAR_LEN", 2),
+    ];
+    assert_eq!(
+        enumerators("sheet_record_fact"),
+        record.map(|(name, place)| (name.to_string(), place))
+    );
 }
 
 #[test]
@@ -336,7 +554,7 @@ fn every_detail_is_said() {
         (
             17,
             [48, 59],
-            "it says 48 bytes, from the 13th of a lock of 59",
+            "it states 48 bytes, from the 13th of a lock of 59",
         ),
         (18, [0x1C, 0], "flags 0000001c"),
         (19, [0x2C, 0], "flags 0000002c"),
@@ -366,7 +584,7 @@ fn every_detail_is_said() {
         (31, [105, 0], "which fit no lock"),
         (31, [1099, 0], "which fit no lock"),
     ] {
-        let refusal = Refusal::new(number, details);
+        let refusal = Refusal::from_number(number, details);
         let said = refusal.to_string();
         let place = refusal.meaning();
         let behind = said.split_once(place).unwrap().1;
@@ -375,7 +593,7 @@ fn every_detail_is_said() {
         assert_eq!(refusal.details(), details);
     }
     for number in [1, 2, 3, 4, 5, 7, 8, 27, 30, 32] {
-        let refusal = Refusal::new(number, [0, 0]);
+        let refusal = Refusal::from_number(number, [0, 0]);
         let expected = format!(
             "refused, {number}: {}; {}",
             refusal.meaning(),
@@ -413,7 +631,7 @@ fn the_words_say_what_to_try() {
                 "read-only recommended",
                 "password to modify",
                 "other programs",
-                "saving the book anew",
+                "saving the book again",
             ],
         ),
         (
@@ -422,8 +640,8 @@ fn the_words_say_what_to_try() {
             &[
                 "upper and lower case",
                 "keyboard layout",
-                "XOR",
-                "15 characters",
+                "opens without asking",
+                "VelvetSweatshop",
             ],
         ),
         (
@@ -434,15 +652,15 @@ fn the_words_say_what_to_try() {
                 "4 bytes",
                 "BOF",
                 "offset 146",
-                "save it anew",
+                "save it again",
             ],
         ),
         (
             29,
             3431,
-            &["BOF and EOF", "pair up", "left open", "save it anew"],
+            &["BOF and EOF", "pair up", "left open", "save it again"],
         ),
-        (13, 5, &["read or sealed", "to seal, choose 2, 3 or 4"]),
+        (13, 5, &["opened or sealed", "to seal, choose 2, 3 or 4"]),
         (
             23,
             0,
@@ -468,9 +686,9 @@ fn the_words_say_what_to_try() {
             70,
             &[
                 "zero record's body",
-                "XOR wants 6 bytes",
-                "Office 97 RC4 54",
-                "RC4 CryptoAPI 106 to 1,098",
+                "6 bytes for XOR",
+                "54 for Office 97 RC4",
+                "106 to 1,098 for CryptoAPI",
             ],
         ),
         (
@@ -479,21 +697,19 @@ fn the_words_say_what_to_try() {
             &[
                 "XOR",
                 "1 to 15 characters",
-                "none beyond U+00FF",
+                "none above U+00FF",
                 "another lock",
             ],
         ),
     ] {
-        let said = Refusal::new(number, [detail, 0]).to_string();
+        let second = if number == 13 { 2 } else { 0 };
+        let said = Refusal::from_number(number, [detail, second]).to_string();
         for word in words {
             assert!(said.contains(word), "{word}: {said}");
         }
     }
-    assert!(Refusal::new(27, [0, 0]).is_wrong_password());
-    assert!(Refusal::new(8, [0, 0]).is_not_locked());
-    assert!(Refusal::new(9, [0x86, 0]).is_write_protect());
-    assert!(!Refusal::new(9, [0x42, 0]).is_write_protect());
-    // A number of a later library is still said.
-    let later = Refusal::new(33, [5, 6]).to_string();
-    assert!(later.starts_with("refused, 33: ") && later.contains("details 5 and 6"));
+    // The lock is not known here, so nothing is said of XOR's passwords.
+    assert!(!Refusal::WrongPassword.to_string().contains("XOR"));
+    assert!(Refusal::from_number(9, [0x86, 0]).is_write_protect());
+    assert!(!Refusal::from_number(9, [0x42, 0]).is_write_protect());
 }

@@ -36,11 +36,15 @@ fn look(stream: &[u8]) -> Verdict {
     verdict
 }
 
-fn yes(version: Option<(u16, u16)>, key_size: Option<u32>) -> Verdict {
+fn yes(version: Option<(u16, u16)>, key_bits: Option<u32>) -> Verdict {
     Verdict::Yes(Facts {
-        xor: false,
+        lock: match version {
+            Some((1, 1)) => Some(Lock::Office97),
+            Some((2, 2) | (3, 2) | (4, 2)) => Some(Lock::CryptoApi),
+            _ => None,
+        },
         version,
-        key_size,
+        key_bits,
     })
 }
 
@@ -104,9 +108,9 @@ fn any_type_but_0_tells_a_key_size() {
     let mut stream = locked;
     stream[8..10].copy_from_slice(&[0, 0]);
     let xor = Facts {
-        xor: true,
+        lock: Some(Lock::Xor),
         version: None,
-        key_size: None,
+        key_bits: None,
     };
     assert_eq!(look(&stream), Verdict::Yes(xor));
 }
@@ -207,10 +211,13 @@ fn a_look_tells_the_key_size_of_an_opening_up_to_its_last_byte() {
             let book = book(bits, stated, &before);
             assert_eq!(book.headers[before.len()], LOOK_LEN - behind);
             let report = open(&book).expect("the book opens");
-            assert_eq!((report.lock, report.key_bits), (Lock::CryptoApi, bits));
+            assert_eq!(
+                (report.lock, report.key_bits),
+                (Lock::CryptoApi, Some(bits))
+            );
             let mut told = told;
             if let Verdict::Yes(facts) = &mut told {
-                facts.key_size = facts.key_size.and(Some(bits));
+                facts.key_bits = facts.key_bits.and(Some(bits));
             }
             assert_eq!(look(&book.locked), told, "{behind} {stated}");
         }

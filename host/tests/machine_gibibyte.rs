@@ -31,7 +31,7 @@ fn an_opening_of_a_gibibyte_reports_what_was_told() {
     let expected = Report {
         records: expected.records,
         lock: Lock::Office97,
-        key_bits: 40,
+        key_bits: Some(40),
         summary_sealed: false,
         output_bytes: expected.output_bytes,
         enciphered_body_bytes: expected.enciphered_body_bytes,
@@ -58,7 +58,7 @@ fn a_sealing_of_a_gibibyte_opens_again() {
         salt: [7; 16],
         verifier: [9; 16],
         major: 4,
-        key_size: 128,
+        key_bits: 128,
     };
     let mut scratch = [0; SCRATCH_LEN];
     let mut sealed = vec![0; STREAM_MAX_LEN];
@@ -66,7 +66,7 @@ fn a_sealing_of_a_gibibyte_opens_again() {
     let expected = Report {
         records: 2 + rows + (STREAM_MAX_LEN - 116 - rows * 65_536) / 4,
         lock: Lock::CryptoApi,
-        key_bits: 128,
+        key_bits: Some(128),
         summary_sealed: false,
         output_bytes: 1_073_741_824,
         enciphered_body_bytes: rows * 65_532,

@@ -143,7 +143,7 @@ fn choice(kind: Kind) -> Choice {
             salt,
             verifier,
             major: 4,
-            key_size,
+            key_bits: key_size,
         },
     }
 }

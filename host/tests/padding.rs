@@ -210,7 +210,7 @@ fn padding_takes_room_in_the_output() {
             let (password, all) = (book.password.as_bytes(), book.locked.len());
             for len in all - zeros..all {
                 let mut lent = Lent::new(&book.locked, password, SCRATCH_LEN, len);
-                assert_eq!(lent.open(), Err(Refusal::new(5, [0, 0])));
+                assert_eq!(lent.open(), Err(Refusal::from_number(5, [0, 0])));
             }
             for len in all..all + 5 {
                 let mut lent = Lent::new(&book.locked, password, SCRATCH_LEN, len);

@@ -45,7 +45,7 @@ fn refused_streams() -> Vec<Refused> {
     for number in QUESTIONS {
         let mut parts = PARTS;
         parts.spoil(number);
-        let refusal = Refusal::new(number, parts.details(number));
+        let refusal = Refusal::from_number(number, parts.details(number));
         cases.push((parts.stream(), "A", refusal));
     }
     for kind in KINDS {
@@ -59,13 +59,13 @@ fn refused_streams() -> Vec<Refused> {
         for len in 0..lock.len() {
             let stream = joined(&[(BOF, vec![]), (FILEPASS, lock[..len].to_vec())]);
             let (number, details) = kind.cut_at(len);
-            cases.push((stream, book.password, Refusal::new(number, details)));
+            cases.push((stream, book.password, Refusal::from_number(number, details)));
         }
         let stream = joined(&[(BOF, vec![]), (EOF, vec![]), (FILEPASS, lock)]);
-        let other_record = Refusal::new(9, [EOF.into(), 0]);
+        let other_record = Refusal::from_number(9, [EOF.into(), 0]);
         cases.push((stream, book.password, other_record));
         for password in ["", "unruh", last_changed(book.password).leak()] {
-            cases.push((book.locked.clone(), password, Refusal::new(27, [0, 0])));
+            cases.push((book.locked.clone(), password, Refusal::from_number(27, [0, 0])));
         }
     }
     let numbers: BTreeSet<u32> = cases.iter().map(|case| case.2.number()).collect();

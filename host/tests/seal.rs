@@ -209,7 +209,7 @@ fn every_body_length_of_the_zero_record() {
             }
         }
         for len in [0, 5, 7, 53, 55, 105, 1099] {
-            let refusal = Refusal::new(31, [len as u64, 0]);
+            let refusal = Refusal::from_number(31, [len as u64, 0]);
             check_refused(&sheet_with(len, &[]), password(&choice), &choice, refusal);
         }
     }
@@ -248,7 +248,7 @@ fn a_body_with_any_other_byte_is_no_zero_record() {
                 let mut other = plain.clone();
                 other[front(len) - len + place] = byte;
                 // The zero record behind it is not the first of its id.
-                let refusal = Refusal::new(30, [0, 0]);
+                let refusal = Refusal::from_number(30, [0, 0]);
                 check_refused(&other, password(&choice), &choice, refusal);
             }
         }
@@ -271,14 +271,14 @@ fn streams_without_a_zero_record() {
             vec![(BOF, vec![]), (FILEPASS, vec![]), zero.clone()],
             vec![(BOF, vec![]), (CLEAR, vec![]), lock.clone(), zero.clone()],
         ] {
-            let refusal = Refusal::new(30, [0, 0]);
+            let refusal = Refusal::from_number(30, [0, 0]);
             check_refused(&joined(&records), password(&choice), &choice, refusal);
         }
         // What is sealed already, and what is locked otherwise.
         let plain = small(&choice);
         let sealed = check(&plain, password(&choice), &choice).unwrap();
         for stream in [sealed, Book::small(kind(&choice)).locked] {
-            let refusal = Refusal::new(30, [0, 0]);
+            let refusal = Refusal::from_number(30, [0, 0]);
             check_refused(&stream, password(&choice), &choice, refusal);
         }
         // Behind all of the others that are never enciphered, and before a FILEPASS.
@@ -314,7 +314,7 @@ fn a_stream_cut_at_every_length() {
 #[test]
 fn passwords_for_xor() {
     let plain = small(&Choice::Xor);
-    let refusal = Refusal::new(32, [0, 0]);
+    let refusal = Refusal::from_number(32, [0, 0]);
     for character in ['A', '\u{0}', '\u{7F}', '\u{80}', 'ß', '\u{FF}'] {
         for count in 0..=17 {
             let password = String::from(character).repeat(count);
@@ -510,10 +510,10 @@ fn streams_around_a_mebibyte() {
         check(&plain, password(&choice), &choice).unwrap();
         // And it is looked for there, where it is not in order.
         records[17].1[3] = 1;
-        let refusal = Refusal::new(30, [0, 0]);
+        let refusal = Refusal::from_number(30, [0, 0]);
         check_refused(&joined(&records), password(&choice), &choice, refusal);
         records[17].1 = vec![0; 5];
-        let refusal = Refusal::new(31, [5, 0]);
+        let refusal = Refusal::from_number(31, [5, 0]);
         check_refused(&joined(&records), password(&choice), &choice, refusal);
     }
 }
@@ -707,9 +707,9 @@ fn a_report_is_what_was_forecast_of_the_sealed_stream() {
             [report.enciphered_body_bytes, report.block_keys]
         );
         let (lock, bits) = match choice {
-            Choice::Xor => (Lock::Xor, 0),
-            Choice::Office97 { .. } => (Lock::Office97, 40),
-            Choice::CryptoApi { key_size, .. } => (Lock::CryptoApi, key_size),
+            Choice::Xor => (Lock::Xor, None),
+            Choice::Office97 { .. } => (Lock::Office97, Some(40)),
+            Choice::CryptoApi { key_bits, .. } => (Lock::CryptoApi, Some(key_bits)),
         };
         assert_eq!(
             (report.lock, report.key_bits, report.summary_sealed),
@@ -813,7 +813,7 @@ fn four_zeros_are_a_record_and_what_is_left_of_more_is_padding() {
         }
         // Four zeros where the lock should go are a zero record without a body.
         let plain = [header(BOF, 0), vec![0; 4]].concat();
-        let refusal = Refusal::new(31, [0, 0]);
+        let refusal = Refusal::from_number(31, [0, 0]);
         check_refused(&plain, password(&choice), &choice, refusal);
     }
 }

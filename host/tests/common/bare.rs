@@ -188,7 +188,7 @@ pub fn seal_into(
                 salt,
                 verifier,
                 major,
-                key_size,
+                key_bits,
             } => sheet_seal_cryptoapi(
                 plain.as_ptr(),
                 plain.len(),
@@ -197,7 +197,7 @@ pub fn seal_into(
                 salt,
                 verifier,
                 *major,
-                *key_size,
+                *key_bits,
                 scratch.as_mut_ptr(),
                 scratch.len(),
                 output.as_mut_ptr(),

@@ -1,5 +1,7 @@
 //! Locked workbook streams made from plain records, by document 01.
 
+use sheet::Lock;
+
 use super::digest::{md5, sha1};
 use super::rc4::Rc4;
 use super::{utf16, xor};
@@ -86,13 +88,18 @@ impl Kind {
     /// What a look tells of the lock if so many bytes of the FILEPASS body are there.
     pub fn facts(self, body: usize) -> sheet::Facts {
         sheet::Facts {
-            xor: self == Kind::Xor && body >= 2,
+            lock: match self {
+                Kind::Xor if body >= 2 => Some(Lock::Xor),
+                Kind::Office97 if body >= 6 => Some(Lock::Office97),
+                Kind::CryptoApi(..) if body >= 6 => Some(Lock::CryptoApi),
+                _ => None,
+            },
             version: match self {
                 Kind::Office97 if body >= 6 => Some((1, 1)),
                 Kind::CryptoApi(..) if body >= 6 => Some((4, 2)),
                 _ => None,
             },
-            key_size: match self {
+            key_bits: match self {
                 Kind::CryptoApi(bits, _) if body >= 34 => Some(bits),
                 _ => None,
             },
@@ -322,9 +329,9 @@ impl Book {
     pub fn refusal_in(&self, len: usize) -> Option<sheet::Refusal> {
         let (_, lock_end) = self.filepass();
         match self.cut_record(len) {
-            Some(at) => Some(sheet::Refusal::new(6, [at as u64, 0])),
-            None if len == 0 => Some(sheet::Refusal::new(7, [0, 0])),
-            None if len < lock_end => Some(sheet::Refusal::new(8, [0, 0])),
+            Some(at) => Some(sheet::Refusal::from_number(6, [at as u64, 0])),
+            None if len == 0 => Some(sheet::Refusal::from_number(7, [0, 0])),
+            None if len < lock_end => Some(sheet::Refusal::from_number(8, [0, 0])),
             None => None,
         }
     }
@@ -353,9 +360,9 @@ impl Book {
     /// padding.
     pub fn report_in(&self, len: usize) -> sheet::Report {
         let (lock, key_bits, summary_sealed) = match self.kind {
-            Kind::Xor => (sheet::Lock::Xor, 0, false),
-            Kind::Office97 => (sheet::Lock::Office97, 40, false),
-            Kind::CryptoApi(bits, sealed) => (sheet::Lock::CryptoApi, bits, sealed),
+            Kind::Xor => (Lock::Xor, None, false),
+            Kind::Office97 => (Lock::Office97, Some(40), false),
+            Kind::CryptoApi(bits, sealed) => (Lock::CryptoApi, Some(bits), sealed),
         };
         let counts = self.forecast_in(len);
         sheet::Report {

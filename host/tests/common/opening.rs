@@ -64,7 +64,7 @@ pub fn told(counts: [usize; 4]) -> Result<Forecast, Refusal> {
 
 /// A refusal, as the answer of any function that refuses.
 pub fn refused<T>(number: u32, details: [u64; 2]) -> Result<T, Refusal> {
-    Err(Refusal::new(number, details))
+    Err(Refusal::from_number(number, details))
 }
 
 /// Passwords that are well-formed: the shortest, one that every lock takes, and one of the longest.
@@ -88,7 +88,7 @@ pub fn check(stream: &[u8], expected: Result<Forecast, Refusal>) {
                 .sum::<usize>();
         assert!(told.enciphered_body_bytes + 4 * told.records + padding <= stream.len());
     }
-    let refusal = expected.err().unwrap_or(Refusal::new(27, [0, 0]));
+    let refusal = expected.err().unwrap_or(Refusal::from_number(27, [0, 0]));
     for password in passwords() {
         let password = password.as_bytes();
         assert_eq!(open(stream, password), Err(refusal));

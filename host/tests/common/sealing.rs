@@ -24,12 +24,12 @@ pub const CHOICES: [Choice; 4] = [
 ];
 
 /// CryptoAPI with a major number and a key size.
-pub const fn crypto_api(major: u16, key_size: u32) -> Choice {
+pub const fn crypto_api(major: u16, key_bits: u32) -> Choice {
     Choice::CryptoApi {
         salt: SALT,
         verifier: VERIFIER,
         major,
-        key_size,
+        key_bits,
     }
 }
 
@@ -39,12 +39,12 @@ pub fn with(choice: Choice, salt: [u8; 16], verifier: [u8; 16]) -> Choice {
         Choice::Xor => Choice::Xor,
         Choice::Office97 { .. } => Choice::Office97 { salt, verifier },
         Choice::CryptoApi {
-            major, key_size, ..
+            major, key_bits, ..
         } => Choice::CryptoApi {
             salt,
             verifier,
             major,
-            key_size,
+            key_bits,
         },
     }
 }
@@ -54,7 +54,7 @@ pub fn kind(choice: &Choice) -> Kind {
     match choice {
         Choice::Xor => Kind::Xor,
         Choice::Office97 { .. } => Kind::Office97,
-        Choice::CryptoApi { key_size, .. } => Kind::CryptoApi(*key_size, false),
+        Choice::CryptoApi { key_bits, .. } => Kind::CryptoApi(*key_bits, false),
     }
 }
 
@@ -104,11 +104,11 @@ pub fn filepass(choice: &Choice, password: &str, len: usize) -> Vec<u8> {
             salt,
             verifier,
             major,
-            key_size,
+            key_bits,
         } => {
             let version = [1, *major, 2].map(u16::to_le_bytes).concat();
             let size = len as u32 - 2 - 12 - 60;
-            let fields = [0x0C, size, 0x0C, 0, 0x6801, 0x8004, *key_size, 1, 0, 0];
+            let fields = [0x0C, size, 0x0C, 0, 0x6801, 0x8004, *key_bits, 1, 0, 0];
             let check = enciphered(salt, verifier, &sha1(verifier));
             [
                 &version[..],
@@ -157,14 +157,14 @@ pub fn expected(
         return refused(7, [0, 0]);
     }
     if let Choice::CryptoApi {
-        major, key_size, ..
+        major, key_bits, ..
     } = choice
     {
         if ![2, 3, 4].contains(major) {
             return refused(13, [(*major).into(), 2]);
         }
-        if !(40..=128).step_by(8).any(|size| size == *key_size) {
-            return refused(23, [(*key_size).into(), 0]);
+        if !(40..=128).step_by(8).any(|size| size == *key_bits) {
+            return refused(23, [(*key_bits).into(), 0]);
         }
     }
     let Some(place) = zero_place(&records) else {
@@ -195,9 +195,9 @@ fn sealed(
     choice: &Choice,
 ) -> (Vec<u8>, Report) {
     let (lock, bits, salt) = match choice {
-        Choice::Xor => (Lock::Xor, 0, None),
-        Choice::Office97 { salt, .. } => (Lock::Office97, 40, Some(salt)),
-        Choice::CryptoApi { salt, key_size, .. } => (Lock::CryptoApi, *key_size, Some(salt)),
+        Choice::Xor => (Lock::Xor, None, None),
+        Choice::Office97 { salt, .. } => (Lock::Office97, Some(40), Some(salt)),
+        Choice::CryptoApi { salt, key_bits, .. } => (Lock::CryptoApi, Some(*key_bits), Some(salt)),
     };
     // The whole stream put through the ciphers, of which each record takes its part.
     let mut keys = 0;
@@ -261,7 +261,7 @@ pub fn facts(answer: &Result<Report, Refusal>) -> bare::Answer {
             let facts = [
                 report.records,
                 lock,
-                report.key_bits as usize,
+                report.key_bits.unwrap_or(0) as usize,
                 report.summary_sealed.into(),
                 report.output_bytes,
                 report.enciphered_body_bytes,
