@@ -8,7 +8,7 @@ use std::os::unix::fs::{symlink, PermissionsExt};
 use std::process::Stdio;
 
 use common::bench::{Bench, Ran, FORECAST, PASSWORD, REPORT};
-use common::book::{clear_len, Book, Kind, BOF, FILEPASS, KINDS};
+use common::book::{clear_len, header, Book, Kind, BOF, FILEPASS, KINDS, ROW};
 use common::passwords::longest;
 use common::process::{run, Process};
 use common::walk::walk;
@@ -42,7 +42,8 @@ fn look_tells_the_lock() {
     ] {
         let book = Book::small(kind);
         bench.write("book", &book.locked);
-        bench.write("plain", &book.plain);
+        // An opened book, and not more of it than comes before a second FILEPASS.
+        bench.write("plain", &book.plain[..book.filepass().1]);
         bench.write("cut", &book.locked[..book.filepass().0 + 2]);
         let told = format!("locked\tyes\n{told}");
         for (name, told) in [
@@ -85,12 +86,6 @@ fn list_lists_the_records() {
     let ran = bench.run_on("list -", bench.file("book"));
     assert_eq!((ran.status, &ran.out[..]), (Some(0), expected));
     assert_eq!(bench.run("list calibres.bin").out.lines().count(), 187);
-    bench.write("empty", b"");
-    let ran = bench.run("list empty");
-    assert_eq!(
-        (ran.status, &ran.out[..]),
-        (Some(0), "at\tid\tlength\tclear\n")
-    );
 }
 
 #[test]
@@ -151,23 +146,24 @@ fn directory_refuses_by_number() {
     for (stream, words) in [
         (
             locked[..1000].to_vec(),
-            "refused, 6: a record can't be read, its header or its body is cut off, at offset ",
+            "refused, 6: a record can't be read: its header or its body is cut off, and what is left \
+             is not padding, at offset ",
         ),
         (
-            Vec::new(),
+            header(ROW, 0),
             "refused, 7: the stream does not start with a BOF record; this is not a workbook ",
         ),
         (
             moved,
-            "refused, 28: a sheet's entry names no sheet, as its BoundSheet8 record's body is \
-             shorter than 4 bytes or the start in it is no BOF record's header: the record at \
-             offset 146; the stream is damaged: ",
+            "refused, 28: a sheet's entry does not name a sheet: the body of its BoundSheet8 record is \
+             shorter than 4 bytes, or the start in it is not the header of a BOF record: the record \
+             at offset 146; the stream is damaged: ",
         ),
         (
             locked[..3431].to_vec(),
             "refused, 29: BOF and EOF records do not pair up: at offset 3431, where an EOF record \
-             closes no BOF or, if that is the end of the stream, a BOF is left open; the stream is \
-             damaged: ",
+             has no BOF to close or, if that is the end of the stream, a BOF is left open; the \
+             stream is damaged: ",
         ),
         (
             [&locked[..], &locked[3431..]].concat(),
@@ -236,10 +232,11 @@ fn forecast_refuses_by_number() {
     for (stream, words) in [
         (
             locked[..3433].to_vec(),
-            "refused, 6: a record can't be read, its header or its body is cut off, at offset 3431; ",
+            "refused, 6: a record can't be read: its header or its body is cut off, and what is left \
+             is not padding, at offset 3431; ",
         ),
         (
-            Vec::new(),
+            header(ROW, 0),
             "refused, 7: the stream does not start with a BOF record; this is not a workbook ",
         ),
         (
@@ -249,18 +246,18 @@ fn forecast_refuses_by_number() {
         ),
         (
             Book::new(Kind::Xor, "A", &protected).locked,
-            "refused, 9: another record stands before FILEPASS than the format admits: \
-             WriteProtect, id 0086; ",
+            "refused, 9: another record comes before FILEPASS than the format allows: WriteProtect, \
+             id 0086; ",
         ),
         (
             odd,
             "refused, 23: the CryptoAPI lock's key size is not 40 to 128 bits in steps of 8, nor 0 \
-             in a book that is opened: it says 44; ",
+             in a book that is opened: it states 44; ",
         ),
     ] {
         bench.write("book", &stream);
         let ran = bench.run("forecast book");
-        ran.failed(1, &["\nsheet: what opening book will take was not told\n"]);
+        ran.failed(1, &["\nsheet: there is no forecast of opening book\n"]);
         assert!(ran.err.starts_with(words), "{}", ran.err);
         assert_eq!(ran.err.lines().count(), 2);
         // An opening is refused in the same words.
@@ -271,7 +268,7 @@ fn forecast_refuses_by_number() {
     let ran = bench.run_on("forecast -", bench.file("book"));
     ran.failed(
         1,
-        &["\nsheet: what opening standard input will take was not told\n"],
+        &["\nsheet: there is no forecast of opening standard input\n"],
     );
     bench.has_only(&["book"]);
 }
@@ -324,7 +321,7 @@ fn report_of(book: &Book) -> String {
          enciphered body bytes\t{}\nblock keys\t{}\n",
         report.records,
         report.lock,
-        report.key_bits,
+        report.key_bits.unwrap_or(0),
         report.output_bytes,
         report.enciphered_body_bytes,
         report.block_keys
@@ -432,7 +429,7 @@ fn a_wrong_password_is_refused_by_number() {
     ran.failed(1, &["keyboard layout", "calibres.bin was not opened"]);
     assert!(ran
         .err
-        .starts_with("refused, 27: the password does not pass"));
+        .starts_with("refused, 27: the password is not correct"));
     assert!(!ran.err.contains("hebungswinkel"));
     bench
         .run_with("open calibres.bin -o plain", "")
@@ -472,8 +469,7 @@ fn streams_that_are_not_in_order_are_refused_by_number() {
     for (stream, words) in [
         (locked[..1000].to_vec(), "refused, 6: "),
         ([&locked[..], &[0, 0, 1]].concat(), "at offset 3435; "),
-        (b"plain words, and no book".to_vec(), "refused, 6: "),
-        (Vec::new(), "refused, 7: "),
+        (header(ROW, 0), "refused, 7: "),
         (bench.plain(), "refused, 8: "),
         (
             Book::new(Kind::Xor, "A", &protected).locked,
@@ -534,11 +530,14 @@ fn compound_files_are_told_from_streams() {
             2,
             &[
                 "sheet: book.xls: ",
+                "a compound file (.xls, .doc, .ppt, or a protected .xlsx)",
                 "libgsf-bin",
-                "gsf cat book.xls Workbook > book.bin",
+                "\n  gsf list book.xls\n",
+                "\n  gsf cat book.xls Workbook > book.bin\n",
+                "EncryptedPackage",
             ],
         );
-        assert_eq!(ran.err.lines().count(), 1);
+        assert_eq!(ran.err.lines().count(), 6);
         let mut command = bench.command_with(&format!("{command} -"), PASSWORD);
         Ran::of(command.stdin(bench.file("book.xls")))
             .failed(2, &["sheet: standard input: ", "gsf cat"]);

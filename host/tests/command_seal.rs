@@ -8,7 +8,7 @@ use std::os::unix::fs::{symlink, PermissionsExt};
 use std::process::Stdio;
 
 use common::bench::{Bench, Ran, PASSWORD, REPORT};
-use common::book::{joined, Book, Kind, BOF, BOUND_SHEET, EOF, ROW};
+use common::book::{header, joined, Book, Kind, BOF, BOUND_SHEET, EOF, ROW};
 use common::passwords::longest;
 use common::process::{run, Process};
 use common::rc4::Rc4;
@@ -234,48 +234,51 @@ fn seal_refuses_by_number() {
         (
             plain[..3433].to_vec(),
             "cryptoapi",
-            "refused, 6: a record can't be read, its header or its body is cut off, at offset 3431; ",
+            "refused, 6: a record can't be read: its header or its body is cut off, and what is left \
+             is not padding, at offset 3431; ",
         ),
         (
-            Vec::new(),
+            header(ROW, 0),
             "cryptoapi",
             "refused, 7: the stream does not start with a BOF record; this is not a workbook ",
         ),
         (
             plain.clone(),
             "cryptoapi --major 5",
-            "refused, 13: --major 5 is not sealed: choose 2, 3 or 4",
+            "refused, 13: --major 5 can't be sealed: choose 2, 3 or 4",
         ),
         (
             plain.clone(),
             "cryptoapi --key-size 0",
-            "refused, 23: --key-size 0 is not sealed: choose 40 to 128 in steps of 8",
+            "refused, 23: --key-size 0 can't be sealed: choose 40 to 128 in steps of 8",
         ),
         (
             plain.clone(),
             "cryptoapi --key-size 44",
-            "refused, 23: --key-size 44 is not sealed: ",
+            "refused, 23: --key-size 44 can't be sealed: ",
         ),
         (
             bench.read("calibres.bin"),
             "cryptoapi",
             "refused, 30: there is no zero record to put the lock in (id 0000, a body of zeros, and \
-             only records before it that are never enciphered), or a FILEPASS stands before it; a \
-             stream that is locked already is opened first; ",
+             only records before it that are never enciphered), or a FILEPASS record comes before it; \
+             a stream that is locked already is opened first; ",
         ),
         (marked, "cryptoapi", "refused, 30: "),
         (joined(&[(BOF, vec![])]), "xor", "refused, 30: "),
         (
             plain.clone(),
             "office97",
-            "refused, 31: the zero record's body does not have a length that fits the lock: it has \
-             122 bytes, which fit RC4 CryptoAPI (cryptoapi) alone; ",
+            "refused, 31: the length of the zero record's body does not fit the lock: it is 6 bytes \
+             for XOR, 54 for Office 97 RC4, 106 to 1,098 for CryptoAPI: it has 122 bytes, which fit \
+             RC4 CryptoAPI (cryptoapi) alone; ",
         ),
         (
             plain.clone(),
             "xor",
-            "refused, 31: the zero record's body does not have a length that fits the lock: it has \
-             122 bytes, which fit RC4 CryptoAPI (cryptoapi) alone; ",
+            "refused, 31: the length of the zero record's body does not fit the lock: it is 6 bytes \
+             for XOR, 54 for Office 97 RC4, 106 to 1,098 for CryptoAPI: it has 122 bytes, which fit \
+             RC4 CryptoAPI (cryptoapi) alone; ",
         ),
     ] {
         bench.write("book", &stream);
@@ -313,7 +316,8 @@ fn refusal_31_names_the_lock_that_fits() {
                 assert_eq!(ran.status, Some(0), "{len} {lock}");
                 fs::remove_file(bench.folder.join("sealed")).unwrap();
             } else {
-                let detail = format!(": it has {len} bytes, which fit {fit}; XOR wants 6 bytes, ");
+                let detail =
+                    format!(": it has {len} bytes, which fit {fit}; choose a lock that fits, ");
                 ran.failed(1, &["refused, 31: ", &detail]);
             }
         }
@@ -340,7 +344,7 @@ fn passwords_that_xor_does_not_take() {
             }
             false => ran.failed(
                 1,
-                &["refused, 32: the password is not one that XOR takes, of 1 to 15 characters"],
+                &["refused, 32: the password is not one that XOR takes: 1 to 15 characters"],
             ),
         }
         bench.has_only(&["plain"]);

@@ -5,6 +5,7 @@ use std::os::unix::ffi::OsStrExt;
 use std::str::FromStr;
 
 use super::failure::Failure;
+use super::names::shown;
 
 /// What is asked for.
 #[derive(Debug, PartialEq)]
@@ -14,6 +15,8 @@ pub enum Order {
     Refusals,
     Look {
         file: OsString,
+        /// Print nothing, and say it by the exit status.
+        quiet: bool,
     },
     List {
         file: OsString,
@@ -58,17 +61,18 @@ pub enum PasswordFrom {
     Elsewhere,
 }
 
-/// Said where a password may have been meant, which is never said again.
+/// Said where a password may have been meant, which is never repeated.
 const NO_PASSWORD: &str = "a password is not taken as an argument, which other users see in the \
     process list and the shell keeps in its history: use --password-file, SHEET_PASSWORD or the \
     prompt";
 
-/// What the options of `seal` need.
+/// What the options need.
+const OUT: &str = "the name of the file to write";
 const LOCKS: &str = "the name of a lock, cryptoapi, office97 or xor";
 const BITS: &str = "a number of bits, 40 to 128 in steps of 8";
 const VERSION: &str = "a number, 2, 3 or 4";
 
-/// What stands on a command line behind the command: names of files, and options with their values.
+/// What comes after the command: names of files, and options with their values.
 #[derive(Default)]
 struct Given {
     files: Vec<OsString>,
@@ -77,6 +81,7 @@ struct Given {
     lock: Option<OsString>,
     key_size: Option<OsString>,
     major: Option<OsString>,
+    quiet: bool,
     help: bool,
 }
 
@@ -98,16 +103,20 @@ pub fn parse(arguments: impl Iterator<Item = OsString>) -> Result<Order, Failure
             return Err(usage(&format!(
             "there is no command '{}': look, list, directory, forecast, open, seal and refusals \
                  are",
-            command.to_string_lossy()
+            shown(&command)
         )))
         }
     };
     if given.help {
         return Ok(Order::Help);
     }
+    if given.quiet && command != "look" {
+        return Err(usage("-q and --quiet are for 'sheet look' alone"));
+    }
     match command.to_str() {
         Some("look") => Ok(Order::Look {
             file: given.only_file("look")?,
+            quiet: given.quiet,
         }),
         Some("list") => Ok(Order::List {
             file: given.only_file("list")?,
@@ -122,8 +131,8 @@ pub fn parse(arguments: impl Iterator<Item = OsString>) -> Result<Order, Failure
         Some("seal") => given.seal(),
         _ => match given.files.first() {
             Some(file) => Err(usage(&format!(
-                "'{}' is too much: 'sheet refusals' stands alone",
-                file.to_string_lossy()
+                "'{}' is too much: 'sheet refusals' takes no file",
+                shown(file)
             ))),
             None => given.no_options("refusals").map(|()| Order::Refusals),
         },
@@ -143,9 +152,19 @@ impl Given {
             match name.as_bytes() {
                 b"--" if value.is_none() => options = false,
                 b"--help" | b"-h" if value.is_none() => given.help = true,
+                b"-q" | b"--quiet" if value.is_none() => given.quiet = true,
                 b"-o" | b"--output" => {
                     let value = value.or_else(|| rest.next());
-                    once(&mut given.out, value, "-o", "the name of the file to write")?;
+                    once(&mut given.out, value, "-o", OUT)?;
+                }
+                [b'-', b'o', b'=', ..] => {
+                    return Err(usage(
+                        "write -o FILE or -oFILE, without =, or --output=FILE",
+                    ))
+                }
+                [b'-', b'o', out @ ..] => {
+                    let value = OsStr::from_bytes(out).to_owned();
+                    once(&mut given.out, Some(value), "-o", OUT)?;
                 }
                 b"--password-file" => {
                     let value = value.or_else(|| rest.next());
@@ -170,12 +189,7 @@ impl Given {
                 }
                 b"--password" => return Err(usage(NO_PASSWORD)),
                 [b'-', b'p', ..] => return Err(usage(NO_PASSWORD)),
-                _ => {
-                    return Err(usage(&format!(
-                        "there is no option '{}'",
-                        name.to_string_lossy()
-                    )))
-                }
+                _ => return Err(usage(&format!("there is no option '{}'", shown(name)))),
             }
         }
         Ok(given)
@@ -223,7 +237,7 @@ impl Given {
         Ok((file, out, password))
     }
 
-    /// The lock to seal under. Which numbers it takes, the library says.
+    /// The lock to seal under. The library checks the numbers.
     fn lock(&self) -> Result<SealUnder, Failure> {
         let Some(lock) = &self.lock else {
             return Err(usage(&format!("'sheet seal' needs --lock and {LOCKS}")));
@@ -238,7 +252,7 @@ impl Given {
             _ => {
                 return Err(usage(&format!(
                     "there is no lock '{}': --lock needs {LOCKS}",
-                    lock.to_string_lossy()
+                    shown(lock)
                 )))
             }
         };
@@ -246,7 +260,7 @@ impl Given {
         if numbers && !matches!(under, SealUnder::CryptoApi { .. }) {
             return Err(usage(&format!(
                 "--key-size and --major are for --lock cryptoapi: the lock {} has no choice of them",
-                lock.to_string_lossy()
+                shown(lock)
             )));
         }
         Ok(under)
@@ -271,7 +285,7 @@ impl Given {
             ))),
             [_, second, ..] => Err(usage(&format!(
                 "'{}' is too much: 'sheet {command}' takes one file",
-                second.to_string_lossy()
+                shown(second)
             ))),
         }
     }
@@ -295,7 +309,7 @@ impl Given {
     }
 }
 
-/// An option and the value that stands behind its `=`.
+/// An option and the value after its `=`.
 fn split(word: &OsStr) -> (&OsStr, Option<OsString>) {
     let bytes = word.as_bytes();
     match bytes.iter().position(|&byte| byte == b'=') {
@@ -307,7 +321,7 @@ fn split(word: &OsStr) -> (&OsStr, Option<OsString>) {
     }
 }
 
-/// The number that is the value of an option, if that stands there.
+/// The number that is the value of an option, if it is given.
 fn number<N: FromStr>(
     option: &Option<OsString>,
     name: &str,
@@ -320,12 +334,12 @@ fn number<N: FromStr>(
         Some(Ok(number)) => Ok(Some(number)),
         _ => Err(usage(&format!(
             "{name} needs {what}, and not '{}'",
-            value.to_string_lossy()
+            shown(value)
         ))),
     }
 }
 
-/// Sets an option that may stand once and needs a value.
+/// Sets an option that may be given once and needs a value.
 fn once(
     option: &mut Option<OsString>,
     value: Option<OsString>,
@@ -336,7 +350,7 @@ fn once(
         return Err(usage(&format!("{name} needs {what}")));
     };
     if option.replace(value).is_some() {
-        return Err(usage(&format!("{name} stands there twice")));
+        return Err(usage(&format!("{name} is given twice")));
     }
     Ok(())
 }
@@ -365,7 +379,14 @@ mod tests {
     #[test]
     fn every_form_of_a_command_line_is_read() {
         let file = || PasswordFrom::File("p".into());
-        assert_eq!(parsed("look a"), Ok(Order::Look { file: "a".into() }));
+        let look = |file: &str, quiet| {
+            let file = file.into();
+            Ok(Order::Look { file, quiet })
+        };
+        assert_eq!(parsed("look a"), look("a", false));
+        for line in ["look -q a", "look a --quiet", "look --quiet -- a"] {
+            assert_eq!(parsed(line), look("a", true), "{line}");
+        }
         assert_eq!(parsed("list -"), Ok(Order::List { file: "-".into() }));
         assert_eq!(parsed("list -- -a"), Ok(Order::List { file: "-a".into() }));
         let directory = |file: &str| Ok(Order::Directory { file: file.into() });
@@ -401,6 +422,8 @@ mod tests {
             "open a -o b --password-file p",
             "open --password-file=p --output=b a",
             "open --password-file p -o b -- a",
+            "open a -ob --password-file p",
+            "open a --output b --password-file p",
         ] {
             assert_eq!(parsed(line), Ok(open("a", "b", file())), "{line}");
         }
@@ -460,6 +483,13 @@ mod tests {
             ("forecast a -o b", "'sheet forecast' takes neither -o"),
             ("forecast --password-file p a", "neither -o"),
             ("refusals 3", "'3'"),
+            ("open -q a -o b", "for 'sheet look' alone"),
+            ("refusals --quiet", "for 'sheet look' alone"),
+            ("look --quiet=1 a", "'--quiet'"),
+            ("open a -o=b", "without ="),
+            ("open a -ob -oc", "twice"),
+            ("look a -ob", "neither -o"),
+            ("opne\u{1b}[2J a", r"'opne\u{1b}[2J'"),
             ("open a", "needs -o"),
             ("open a -o", "-o needs"),
             ("open a -o b -o c", "twice"),
@@ -480,10 +510,7 @@ mod tests {
             ("seal a -o b --lock=", "--lock needs"),
             ("seal a -o b --lock rc4", "there is no lock 'rc4'"),
             ("seal a -o b --lock XOR", "there is no lock 'XOR'"),
-            (
-                "seal a -o b --lock xor --lock xor",
-                "--lock stands there twice",
-            ),
+            ("seal a -o b --lock xor --lock xor", "--lock is given twice"),
             (
                 "seal a -o b --lock xor --key-size 40",
                 "for --lock cryptoapi",

@@ -8,8 +8,9 @@ use sheet::Refusal;
 /// Why the command did not do what was asked.
 #[derive(Debug)]
 pub enum Failure {
-    /// The library refused a stream. The words say what was not done.
-    Refused(Refusal, String),
+    /// The library refused a stream. Each of the lines adds to that, the last one says what was not
+    /// done.
+    Refused(Refusal, Vec<String>),
     /// The library refused what an argument asked for, by this number. The words say which argument,
     /// and what was not done.
     RefusedArgument(u32, String),
@@ -17,14 +18,14 @@ pub enum Failure {
     Unreadable(String),
     /// The arguments, the input, the output, the password that was typed, or what the machine lacks.
     Other(String),
-    /// Whoever reads what is printed has gone, as `head` does when it has enough.
+    /// The reader of what is printed has gone, as `head` does when it has enough.
     ReaderGone,
 }
 
 impl Failure {
     /// A mistake in the arguments.
     pub fn usage(words: &str) -> Failure {
-        Failure::Other(format!("{words}\n'sheet --help' tells more"))
+        Failure::Other(format!("{words}\n'sheet --help' says more"))
     }
 
     /// Something is wrong with a file or stream.
@@ -39,9 +40,7 @@ impl Failure {
             &match error.kind() {
                 ErrorKind::NotFound => "there is no such file: check its name and folder".into(),
                 ErrorKind::PermissionDenied => {
-                    "there is no permission to read it: ask its owner, or copy it to a folder of \
-                     your own"
-                        .into()
+                    "you have no permission to read it: ask its owner for that".into()
                 }
                 ErrorKind::IsADirectory => "this is a folder: name a file in it".into(),
                 ErrorKind::NotADirectory => {
@@ -58,7 +57,7 @@ impl Failure {
         let words = match error.kind() {
             ErrorKind::NotFound => "there is no such folder: make it first, or name another".into(),
             ErrorKind::PermissionDenied => {
-                "there is no permission to write there: name a file in a folder of your own".into()
+                "you have no permission to write there: name a file in a folder of your own".into()
             }
             ErrorKind::StorageFull => {
                 "the disk is full: make room there, or write to another disk".into()
@@ -73,7 +72,7 @@ impl Failure {
                     .into()
             }
             ErrorKind::ReadOnlyFilesystem => "the disk is read-only: write to another disk".into(),
-            ErrorKind::BrokenPipe => "whoever reads it has gone".into(),
+            ErrorKind::BrokenPipe => "its reader has gone".into(),
             ErrorKind::NotADirectory => {
                 "part of this path is a file and not a folder: check its name and folder".into()
             }
@@ -83,7 +82,7 @@ impl Failure {
         Failure::at(name, &words)
     }
 
-    /// The same, with more words behind it.
+    /// The same, with more words after it.
     pub fn and(self, more: &str) -> Failure {
         match self {
             Failure::Other(words) => Failure::Other(format!("{words}; {more}")),
@@ -91,21 +90,35 @@ impl Failure {
         }
     }
 
+    /// The same, with what the file is in front of its name.
+    pub fn of(self, what: &str) -> Failure {
+        match self {
+            Failure::Other(words) => Failure::Other(format!("{what} {words}")),
+            other => other,
+        }
+    }
+
     /// What is said of it.
     pub fn words(&self) -> String {
         match self {
-            Failure::Refused(refusal, words) => format!("{refusal}\nsheet: {words}"),
+            Failure::Refused(refusal, lines) => {
+                let lines: String = lines
+                    .iter()
+                    .map(|line| format!("\nsheet: {line}"))
+                    .collect();
+                format!("{refusal}{lines}")
+            }
             Failure::RefusedArgument(number, words) => format!("refused, {number}: {words}"),
             Failure::Unreadable(words) | Failure::Other(words) => format!("sheet: {words}"),
             Failure::ReaderGone => String::new(),
         }
     }
 
-    /// Says it on standard error and tells the exit status.
+    /// Says it on standard error and gives the exit status.
     pub fn report(self) -> ExitCode {
         let words = self.words();
         if !words.is_empty() {
-            // Nobody is left to tell where standard error does not take it.
+            // If standard error does not take it, there is nobody else to tell.
             let _ = writeln!(io::stderr(), "{words}");
         }
         match self {

@@ -3,21 +3,21 @@
 pub const HELP: &str = "\
 sheet: looks at, lists, opens and seals protected Excel 97-2003 workbooks
 
-  sheet look FILE            tells whether the workbook is locked, and how
+  sheet look FILE            shows whether the workbook is locked, and how
   sheet list FILE            lists its records
-  sheet directory FILE       lists its sheets and where they start, which takes
+  sheet directory FILE       lists its sheets and where they start; this takes
                              no password
-  sheet forecast FILE        tells what opening it will take, which takes no
+  sheet forecast FILE        shows what opening it will take; this takes no
                              password
   sheet open FILE -o OUT     opens it with its password, and writes the plain
                              stream to OUT
   sheet seal FILE -o OUT --lock LOCK
                              seals a plain stream under a new password, and
                              writes the sealed stream to OUT
-  sheet refusals             tells what each number of a refusal means, and
+  sheet refusals             lists what each number of a refusal means, and
                              what to try
-  sheet --help               prints this
-  sheet --version            prints the version
+  sheet --help, -h           prints this
+  sheet --version, -V        prints the version
 
 FILE is the Workbook stream of an .xls file, of up to 1 GiB. To take it out of
 the .xls file, with gsf (Debian's package libgsf-bin):
@@ -25,12 +25,30 @@ the .xls file, with gsf (Debian's package libgsf-bin):
   gsf cat book.xls Workbook > book.bin
 
 A name of - is standard input in place of FILE, and standard output in place
-of OUT.
+of OUT. After -- every word is a name.
+
+OPTIONS
+
+  -o OUT, -oOUT, --output OUT
+                             the file to write, for open and seal
+  --password-file FILE       where the password is, for open and seal
+  --lock, --key-size, --major
+                             the lock, for seal
+  -q, --quiet                for look: prints nothing, and says it by the exit
+                             status
+
+LOOK reads the first mebibyte of FILE and no more. 'no' does not always mean
+that the figures are plain: a book that was saved with a password and also as
+'read-only recommended' or with a password to modify has a WriteProtect record
+(0086) before its lock. It is locked, but look says no. Where the lock is in
+the first mebibyte, a warning on standard error says so, and look --quiet ends
+with 3. forecast reads all of FILE: it is refused with 8 if there is no lock
+anywhere, and with 9 for such a book.
 
 THE PASSWORD comes from the first of these that is there:
 
   --password-file FILE       the file holds the password in UTF-8 and nothing
-                             else; one newline at its end is taken off; a name
+                             else; one newline at its end is removed; a name
                              of - is standard input
   SHEET_PASSWORD             this environment variable, even if it is empty
   the terminal               the command asks, and does not show what you type;
@@ -39,12 +57,15 @@ THE PASSWORD comes from the first of these that is there:
 It can't be given as an argument: other users of the machine see the arguments
 of every command in the process list, and shells keep them in their history.
 The command wipes the password from its memory as soon as the stream is open
-or sealed. The environment's own copy it can't wipe: whoever may read the
+or sealed. It can't wipe the environment's own copy: anyone who may read the
 environment of the command, or of the shell that started it, finds
 SHEET_PASSWORD there.
 
-THE LOCK of seal goes into a zero record (id 0000, a body of zeros), which a
-stream has that was locked once: where its FILEPASS stood before it was opened.
+A book that opens without asking for a password, though it is locked, has the
+fixed password VelvetSweatshop. The command never tries a password by itself.
+
+THE LOCK of seal goes into a zero record (id 0000, a body of zeros). A stream
+that was locked before has one, where its FILEPASS was before it was opened.
 The length of its body decides which lock fits:
 
   --lock cryptoapi           RC4 CryptoAPI, 106 to 1,098 bytes, with
@@ -58,32 +79,32 @@ The length of its body decides which lock fits:
 
 Not every program opens every choice. LibreOffice opens passwords of 1 to 15
 characters alone (one beyond U+FFFF counts as two), and of cryptoapi 128 bits
-as version 3.2 or 4.2; XOR with letters beyond ASCII only some programs open.
+as version 3.2 or 4.2; only some programs open XOR with letters beyond ASCII.
 
-The lock cryptoapi says that the document summary, outside of this stream, is
-not enciphered. Where open said 'summary sealed yes' of a book, its summary
-still is, under the old password: take it out of the .xls file.
+The lock cryptoapi says that the document summary, which is not in this
+stream, is not enciphered. Where open said 'summary sealed yes' of a book, its
+summary still is, under the old password: take it out of the .xls file.
 
-XOR and keys of 40 bits do not protect a sheet from anyone who tries, nor keys
-of up to 64 bits from whoever has many machines, and a warning says so each
-time. The salt and the verifier of the other two locks
-are drawn from the system's random source (/dev/urandom), anew for each
-sealing.
+XOR and keys of 40 bits do not protect a sheet from anyone who tries, nor do
+keys of up to 64 bits protect it from anyone who has many machines. A warning
+says so each time. The salt and the verifier of the other two locks are drawn
+from the system's random source (/dev/urandom), anew for each sealing.
 
-OUT gets its name when all of it is on the disk. Until then what is written
-stands beside it in a file .sheet-*.part, which is removed if anything
-fails or you press ctrl-C (only kill -9 and a power cut can leave it behind).
-If there is a file OUT already, it is replaced then and not before. FILE is
-never changed, and OUT can't be FILE or the password file under another name.
+OUT gets its name when all of it is on the disk. Until then what is written is
+beside it in a file .sheet-*.part, which is removed if anything fails or you
+press ctrl-C (only kill -9 and a power cut can leave it behind). If there is a
+file OUT already, it is replaced then and not before, and keeps its
+permissions; a new OUT of open can be read by its owner alone. FILE is never
+changed, and OUT can't be FILE or the password file under another name.
 
-PRINTED, with a tab between the columns:
+PRINTED, in columns separated by tabs:
 
-  look    locked: yes, no, or unknown (not a workbook stream, or cut too early
-          to tell). For a locked one also, where they are told, lock, version,
-          and key size in bits
+  look    locked: yes, no, or unknown (not a workbook stream, or cut off too
+          early to show). For a locked one also, where they are known, lock,
+          version, and key size in bits
   list    at: the offset of the record; id, hexadecimal; length of its body;
           clear: how many of the body's first bytes are never enciphered. One
-          to three zero bytes behind the last record are padding, and have no
+          to three zero bytes after the last record are padding, and have no
           line. If a record can't be read, a last line says unreadable, and its
           offset
   directory
@@ -96,24 +117,35 @@ PRINTED, with a tab between the columns:
           how many are derived, 0 for XOR, or else one for the check of the
           password and one for each 1,024 bytes of FILE that are begun
   open    records: how many; lock; key size in bits; summary sealed: whether
-          the document summary, outside of this stream, is enciphered too; and
-          output bytes, enciphered body bytes and block keys, as forecast tells
-          them. If OUT is - this goes to standard error
-  seal    the same, as open will tell it of OUT
+          the document summary, which is not in this stream, is enciphered too;
+          and output bytes, enciphered body bytes and block keys, as forecast
+          gives them. If OUT is - this goes to standard error
+  seal    the same, as open will give it for OUT
 
 EXIT STATUS
 
-  0       done; for look, whatever the answer
+  0       done; for look, whatever it shows; for look --quiet, locked
   1       open, seal, directory or forecast was refused: standard error says
           'refused, NUMBER:' and why, and OUT is not written; or list found a
-          record that can't be read
+          record that can't be read; for look --quiet, not locked
   2       anything else: the arguments, the input, the output, what was typed
           as a password, or no random source; standard error says which, and
           what to try
+  3       for look --quiet, unknown, or no though a lock was found later
 
-EXAMPLE
+EXAMPLES
 
   sheet look book.bin
   sheet open book.bin -o plain.bin
   sheet seal plain.bin -o sealed.bin --lock cryptoapi
+
+From a locked book.xls to a plain one, with gsf. The stream must be in a file
+named Workbook:
+
+  gsf cat book.xls Workbook > book.bin
+  sheet open book.bin -o Workbook
+  gsf createole plain.xls Workbook
+
+plain.xls has the sheets alone: the document summary and macros stay behind in
+book.xls.
 ";

@@ -7,9 +7,15 @@ use std::os::fd::AsFd;
 use std::os::unix::fs::MetadataExt;
 
 use super::failure::Failure;
+use super::kind::Kind;
+use super::names::shown;
+use super::standard;
 
-/// The first bytes of a compound file, which a whole `.xls` file is.
-const COMPOUND: [u8; 8] = [0xD0, 0xCF, 0x11, 0xE0, 0xA1, 0xB1, 0x1A, 0xE1];
+/// What standard input is called in messages.
+pub const STANDARD: &str = "standard input";
+
+/// The bytes that a look reads at most.
+const LOOK_LEN: usize = 1 << 20;
 
 /// What tells one regular file from another: device and inode.
 pub type Identity = (u64, u64);
@@ -19,19 +25,15 @@ pub struct Input {
     pub name: String,
     pub stream: Vec<u8>,
     pub identity: Option<Identity>,
+    /// What is said if it is not a workbook stream.
+    pub other: Option<String>,
 }
 
 impl Input {
-    /// Reads a file, or standard input for `-`.
+    /// Reads a stream: a file, or standard input for `-`. A file that is something else is an error.
     pub fn read(file: &OsStr) -> Result<Input, Failure> {
-        let (name, opened) = if file == "-" {
-            let opened = io::stdin().as_fd().try_clone_to_owned().map(File::from);
-            ("standard input".to_string(), opened)
-        } else {
-            (file.to_string_lossy().into_owned(), File::open(file))
-        };
+        let (name, mut source) = open(file)?;
         let failed = |error: io::Error| Failure::reading(&name, &error);
-        let mut source = opened.map_err(failed)?;
         let metadata = source.metadata().map_err(failed)?;
         if metadata.is_dir() {
             return Err(failed(io::ErrorKind::IsADirectory.into()));
@@ -39,32 +41,75 @@ impl Input {
         if metadata.len() > sheet::STREAM_MAX_LEN as u64 {
             return Err(too_long(&name));
         }
-        let stream = read_all(&mut source, metadata.len() as usize).map_err(failed)?;
+        let most = sheet::STREAM_MAX_LEN + 1;
+        let stream = up_to(&mut source, most, metadata.len() as usize).map_err(failed)?;
         if stream.len() > sheet::STREAM_MAX_LEN {
             return Err(too_long(&name));
         }
-        if stream.starts_with(&COMPOUND) {
-            return Err(Failure::at(
-                &name,
-                "this is a whole .xls file (a compound file): take the Workbook stream out of it \
-                 first, with Debian's libgsf-bin: gsf cat book.xls Workbook > book.bin",
-            ));
+        match Kind::of(&stream) {
+            Some(kind) => Err(Failure::at(&name, &kind.words(named(file)))),
+            None => Ok(Input {
+                stream,
+                identity: identity(&metadata),
+                name,
+                other: None,
+            }),
         }
+    }
+
+    /// Reads as much as a look takes, and no more. Only a compound file is an error: of any other
+    /// file that is not a workbook stream, a look can say that it is unknown.
+    pub fn read_for_look(file: &OsStr) -> Result<Input, Failure> {
+        let (name, mut source) = open(file)?;
+        let failed = |error: io::Error| Failure::reading(&name, &error);
+        let metadata = source.metadata().map_err(failed)?;
+        if metadata.is_dir() {
+            return Err(failed(io::ErrorKind::IsADirectory.into()));
+        }
+        let expected = metadata.len().min(LOOK_LEN as u64) as usize;
+        let stream = up_to(&mut source, LOOK_LEN, expected).map_err(failed)?;
+        let other = match Kind::of(&stream) {
+            Some(Kind::Compound) => {
+                return Err(Failure::at(&name, &Kind::Compound.words(named(file))))
+            }
+            Some(kind) => Some(kind.words(named(file))),
+            None => None,
+        };
         Ok(Input {
             stream,
             identity: identity(&metadata),
             name,
+            other,
         })
     }
 }
 
-/// Reads to the end, or to the first byte more than a stream may have.
-fn read_all(source: &mut File, expected: usize) -> io::Result<Vec<u8>> {
+/// The name that the user gave.
+fn named(file: &OsStr) -> Option<&OsStr> {
+    (file != "-").then_some(file)
+}
+
+/// Opens a file, or standard input for `-`, and gives what it is called in messages.
+pub fn open(file: &OsStr) -> Result<(String, File), Failure> {
+    let (name, opened) = if file != "-" {
+        (shown(file), File::open(file))
+    } else if standard::input_is_closed() {
+        return Err(Failure::at(STANDARD, "it is closed: name a file"));
+    } else {
+        let opened = io::stdin().as_fd().try_clone_to_owned().map(File::from);
+        (STANDARD.to_string(), opened)
+    };
+    match opened {
+        Ok(opened) => Ok((name, opened)),
+        Err(error) => Err(Failure::reading(&name, &error)),
+    }
+}
+
+/// Reads to the end, or so many bytes.
+fn up_to(source: &mut File, most: usize, expected: usize) -> io::Result<Vec<u8>> {
     let mut stream = Vec::new();
     stream.try_reserve_exact(expected)?;
-    source
-        .take(sheet::STREAM_MAX_LEN as u64 + 1)
-        .read_to_end(&mut stream)?;
+    source.take(most as u64).read_to_end(&mut stream)?;
     Ok(stream)
 }
 

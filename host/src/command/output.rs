@@ -5,13 +5,15 @@ use std::fs::{self, File, Metadata, OpenOptions, Permissions};
 use std::io::{self, ErrorKind, IsTerminal, Write};
 use std::os::fd::AsFd;
 use std::os::unix::ffi::OsStrExt;
+use std::os::unix::fs::OpenOptionsExt;
 use std::path::{Path, PathBuf};
 use std::process;
 
 use super::arguments::PasswordFrom;
 use super::failure::Failure;
 use super::input::{identity, Identity, Input};
-use super::{interrupt, password};
+use super::names::shown;
+use super::{interrupt, password, standard};
 
 /// What standard output is called in messages.
 pub const STANDARD: &str = "standard output";
@@ -34,15 +36,46 @@ pub enum Output {
         name: String,
         /// The file itself, behind all links.
         path: PathBuf,
-        /// Of the file that is replaced, which the new one keeps.
-        permissions: Option<Permissions>,
+        permissions: Mode,
     },
 }
 
+/// The permissions of a file that is written.
+pub enum Mode {
+    /// Those of the file that is replaced, which the new one keeps.
+    Kept(Permissions),
+    /// A new file's.
+    New(Readers),
+}
+
+/// Who may read a new file.
+#[derive(Clone, Copy)]
+pub enum Readers {
+    /// Its owner alone: a plain stream.
+    Owner,
+    /// Those that the user's umask allows: a sealed stream.
+    Umask,
+}
+
+impl Readers {
+    /// The permissions that a file is created with, less the umask.
+    fn mode(self) -> u32 {
+        match self {
+            Readers::Owner => 0o600,
+            Readers::Umask => 0o666,
+        }
+    }
+}
+
 impl Output {
-    /// Sees that the output can be written, as far as this can be told beforehand, and that it is
-    /// neither the input nor the password file.
-    pub fn prepare(out: &OsStr, input: &Input, from: &PasswordFrom) -> Result<Output, Failure> {
+    /// Checks that the output can be written, as far as this shows beforehand, and that it is neither
+    /// the input nor the password file.
+    pub fn prepare(
+        out: &OsStr,
+        input: &Input,
+        from: &PasswordFrom,
+        readers: Readers,
+    ) -> Result<Output, Failure> {
         let kept = [
             (input.identity, SAME_AS_INPUT),
             (password::identity_of(from), SAME_AS_PASSWORD),
@@ -50,11 +83,11 @@ impl Output {
         if out == "-" {
             return standard(&kept);
         }
-        let name = out.to_string_lossy().into_owned();
+        let name = shown(out);
         let path = Path::new(out);
         match fs::symlink_metadata(path) {
             Ok(_) => existing(name, path, &kept),
-            Err(error) if error.kind() == ErrorKind::NotFound => new(name, out),
+            Err(error) if error.kind() == ErrorKind::NotFound => new(name, out, readers),
             Err(error) => Err(Failure::writing(&name, &error)),
         }
     }
@@ -68,7 +101,7 @@ impl Output {
     pub fn write(&self, stream: &[u8]) -> Result<(), Failure> {
         match self {
             Output::Standard => {
-                let mut out = io::stdout().lock();
+                let mut out = open_standard()?;
                 out.write_all(stream)
                     .and_then(|()| out.flush())
                     .map_err(|error| {
@@ -79,8 +112,7 @@ impl Output {
                 name,
                 path,
                 permissions,
-            } => replace(path, permissions.as_ref(), stream)
-                .map_err(|error| Failure::writing(name, &error)),
+            } => replace(path, permissions, stream).map_err(|error| Failure::writing(name, &error)),
         }
     }
 }
@@ -98,7 +130,19 @@ pub fn room(len: usize) -> Result<Vec<u8>, Failure> {
     Ok(room)
 }
 
+/// Standard output, if it is open.
+pub fn open_standard() -> Result<io::StdoutLock<'static>, Failure> {
+    if standard::output_is_closed() {
+        return Err(Failure::at(
+            STANDARD,
+            "it is closed, so nothing can be written there",
+        ));
+    }
+    Ok(io::stdout().lock())
+}
+
 fn standard(kept: &Kept) -> Result<Output, Failure> {
+    drop(open_standard()?);
     if io::stdout().is_terminal() {
         return Err(Failure::at(
             STANDARD,
@@ -149,13 +193,13 @@ fn existing(name: String, path: &Path, kept: &Kept) -> Result<Output, Failure> {
         .map(|path| Output::File {
             name: name.clone(),
             path,
-            permissions: Some(metadata.permissions()),
+            permissions: Mode::Kept(metadata.permissions()),
         })
         .map_err(|error| Failure::writing(&name, &error))
 }
 
 /// An output that is not there yet.
-fn new(name: String, out: &OsStr) -> Result<Output, Failure> {
+fn new(name: String, out: &OsStr, readers: Readers) -> Result<Output, Failure> {
     let path = Path::new(out);
     if out.as_bytes().ends_with(b"/") || path.file_name().is_none() {
         return Err(Failure::at(
@@ -168,20 +212,20 @@ fn new(name: String, out: &OsStr) -> Result<Output, Failure> {
         Ok(metadata) if metadata.is_dir() => Ok(Output::File {
             name,
             path: path.to_path_buf(),
-            permissions: None,
+            permissions: Mode::New(readers),
         }),
         Err(error) if error.kind() != ErrorKind::NotFound => Err(Failure::writing(&name, &error)),
         _ => Err(Failure::at(
             &name,
             &format!(
                 "there is no folder {}: make it first, or name another",
-                folder.display()
+                shown(folder.as_os_str())
             ),
         )),
     }
 }
 
-/// Sees that an output is none of the files that are kept.
+/// Checks that an output is none of the files that are kept.
 fn see_that_it_is_none(name: &str, out: &Metadata, kept: &Kept) -> Result<(), Failure> {
     let out = identity(out);
     match kept.iter().find(|(file, _)| out.is_some() && *file == out) {
@@ -190,7 +234,7 @@ fn see_that_it_is_none(name: &str, out: &Metadata, kept: &Kept) -> Result<(), Fa
     }
 }
 
-/// The folder that a file stands in.
+/// The folder that a file is in.
 fn folder_of(path: &Path) -> &Path {
     match path.parent() {
         Some(folder) if !folder.as_os_str().is_empty() => folder,
@@ -199,12 +243,17 @@ fn folder_of(path: &Path) -> &Path {
 }
 
 /// Writes a file under another name beside it, and gives it its name when all of it is on the disk.
-fn replace(path: &Path, permissions: Option<&Permissions>, stream: &[u8]) -> io::Result<()> {
+fn replace(path: &Path, permissions: &Mode, stream: &[u8]) -> io::Result<()> {
     let folder = folder_of(path);
-    let (mut file, part) = Part::create(folder)?;
-    if let Some(permissions) = permissions {
-        file.set_permissions(permissions.clone())?;
-    }
+    let (mut file, part) = match permissions {
+        Mode::New(readers) => Part::create(folder, *readers)?,
+        // Until it has the permissions of the file that it replaces, nobody else reads it.
+        Mode::Kept(permissions) => {
+            let (file, part) = Part::create(folder, Readers::Owner)?;
+            file.set_permissions(permissions.clone())?;
+            (file, part)
+        }
+    };
     file.write_all(stream)?;
     file.sync_all()?;
     part.rename(path)?;
@@ -223,12 +272,14 @@ struct Part {
 }
 
 impl Part {
-    fn create(folder: &Path) -> io::Result<(File, Part)> {
+    fn create(folder: &Path, readers: Readers) -> io::Result<(File, Part)> {
+        let mut options = OpenOptions::new();
+        options.write(true).create_new(true).mode(readers.mode());
         let mut count = 0;
         loop {
             let name = OsString::from(format!(".sheet-{}-{count}.part", process::id()));
             let path = folder.join(name);
-            match OpenOptions::new().write(true).create_new(true).open(&path) {
+            match options.open(&path) {
                 Ok(file) => {
                     interrupt::remove_when_interrupted(&path);
                     return Ok((file, Part { path, named: false }));

@@ -2,20 +2,78 @@
 
 use std::env;
 use std::ffi::OsStr;
-use std::fs::{self, File};
-use std::io;
-use std::os::fd::AsFd;
+use std::fs;
 use std::os::unix::ffi::OsStringExt;
 
 use sheet::Secret;
 
 use super::arguments::PasswordFrom;
 use super::failure::Failure;
-use super::input::{identity, Identity};
+use super::input::{self, identity, Identity};
 use super::terminal;
 
 /// The environment variable that may hold the password.
 const VARIABLE: &str = "SHEET_PASSWORD";
+
+/// A password, and what it was given in.
+pub struct Password {
+    pub secret: Secret,
+    source: &'static str,
+}
+
+impl Password {
+    /// What is unusual about it, in words: bytes of a file that were perhaps not meant to be part of
+    /// the password.
+    pub fn oddities(&self) -> Vec<String> {
+        oddities(self.secret.as_bytes())
+            .iter()
+            .map(|words| format!("{} {words}", self.source))
+            .collect()
+    }
+}
+
+/// What is unusual about the bytes of a password.
+fn oddities(password: &[u8]) -> Vec<&'static str> {
+    // Of UTF-16 nothing else can be said by its bytes.
+    if password.starts_with(&[0xFF, 0xFE]) || password.starts_with(&[0xFE, 0xFF]) {
+        return vec!["is UTF-16 (it begins with FF FE or FE FF): save it as UTF-8"];
+    }
+    if password.contains(&0) {
+        return vec!["has zero bytes in it, as UTF-16 has: save it as UTF-8"];
+    }
+    let mut found = Vec::new();
+    if password.starts_with(&[0xEF, 0xBB, 0xBF]) {
+        found.push(
+            "begins with a byte order mark (EF BB BF), which is taken for a part of the password: \
+             save it as UTF-8 without one",
+        );
+    }
+    let lines = |byte: &u8| matches!(byte, b'\n' | b'\r');
+    let end = password
+        .iter()
+        .rposition(|byte| !lines(byte))
+        .map_or(0, |at| at + 1);
+    if end < password.len() {
+        found.push(
+            "ends with a newline more than the one that is removed from a file, and the rest is \
+             taken for a part of the password",
+        );
+    }
+    let (inside, blank) = (&password[..end], [b' ', b'\t']);
+    if inside.iter().any(lines) {
+        found.push("has more than one line, and all of them are taken for the password");
+    }
+    if inside.last().is_some_and(|byte| blank.contains(byte)) || inside.ends_with(NO_BREAK) {
+        found.push("ends with a blank, which is taken for a part of the password");
+    }
+    if inside.first().is_some_and(|byte| blank.contains(byte)) || inside.starts_with(NO_BREAK) {
+        found.push("begins with a blank, which is taken for a part of the password");
+    }
+    found
+}
+
+/// A no-break space in UTF-8.
+const NO_BREAK: &[u8] = "\u{A0}".as_bytes();
 
 /// Gets the password of a stream. Before it is asked for on the terminal, `worth_asking` may say
 /// that it is of no use.
@@ -23,7 +81,7 @@ pub fn get(
     from: &PasswordFrom,
     stream: &str,
     worth_asking: impl FnOnce() -> Result<(), Failure>,
-) -> Result<Secret, Failure> {
+) -> Result<Password, Failure> {
     given_or_asked(from, || {
         worth_asking()?;
         let [password] = from_terminal([&format!("Password for {stream}: ")])?;
@@ -37,7 +95,7 @@ pub fn get_new(
     from: &PasswordFrom,
     stream: &str,
     worth_asking: impl FnOnce() -> Result<(), Failure>,
-) -> Result<Secret, Failure> {
+) -> Result<Password, Failure> {
     given_or_asked(from, || {
         worth_asking()?;
         let first = format!("New password for {stream}: ");
@@ -56,46 +114,39 @@ pub fn identity_of(from: &PasswordFrom) -> Option<Identity> {
     let PasswordFrom::File(file) = from else {
         return None;
     };
-    let metadata = if file == "-" {
-        let opened = io::stdin().as_fd().try_clone_to_owned().map(File::from);
-        opened.and_then(|file| file.metadata())
-    } else {
-        fs::metadata(file)
-    };
-    identity(&metadata.ok()?)
+    if file == "-" {
+        let (_, opened) = input::open(file).ok()?;
+        return identity(&opened.metadata().ok()?);
+    }
+    identity(&fs::metadata(file).ok()?)
 }
 
 /// The password from the file or the environment, or else by asking.
 fn given_or_asked(
     from: &PasswordFrom,
     ask: impl FnOnce() -> Result<Secret, Failure>,
-) -> Result<Secret, Failure> {
-    if let PasswordFrom::File(file) = from {
-        return from_file(file);
-    }
-    if let Some(value) = env::var_os(VARIABLE) {
-        return Ok(Secret::from_vec(value.into_vec()));
-    }
-    ask()
+) -> Result<Password, Failure> {
+    let (source, secret) = if let PasswordFrom::File(file) = from {
+        ("the password file", from_file(file)?)
+    } else if let Some(value) = env::var_os(VARIABLE) {
+        (VARIABLE, Secret::from_vec(value.into_vec()))
+    } else {
+        ("what was typed", ask()?)
+    };
+    Ok(Password { secret, source })
 }
 
 fn from_file(file: &OsStr) -> Result<Secret, Failure> {
-    let (name, opened) = if file == "-" {
-        let opened = io::stdin().as_fd().try_clone_to_owned().map(File::from);
-        ("standard input".to_string(), opened)
-    } else {
-        (file.to_string_lossy().into_owned(), File::open(file))
-    };
-    let failed = |error: io::Error| Failure::reading(&format!("password file {name}"), &error);
+    let (name, mut opened) = input::open(file).map_err(|failure| failure.of("password file"))?;
     let mut secret = Secret::new();
     secret
-        .read_from(&mut opened.map_err(failed)?)
-        .map_err(failed)?;
+        .read_from(&mut opened)
+        .map_err(|error| Failure::reading(&name, &error).of("password file"))?;
     secret.trim_newline();
     Ok(secret)
 }
 
-/// What is typed behind each of these prompts.
+/// What is typed at each of these prompts.
 fn from_terminal<const N: usize>(prompts: [&str; N]) -> Result<[Secret; N], Failure> {
     let Ok(mut terminal) = terminal::open() else {
         return Err(Failure::usage(&format!(
@@ -120,4 +171,40 @@ fn from_terminal<const N: usize>(prompts: [&str; N]) -> Result<[Secret; N], Fail
         }
     }
     Ok(typed.map(|secret| secret.expect("each was asked for")))
+}
+
+#[cfg(test)]
+mod tests {
+    use super::*;
+
+    #[test]
+    fn oddities_of_a_password_are_named() {
+        for (password, words) in [
+            (&b"Unruh"[..], &[][..]),
+            (b"", &[]),
+            ("Hebungswinkel 50°".as_bytes(), &[]),
+            (b"\xEF\xBB\xBFUnruh", &["byte order mark"]),
+            (b"\xFF\xFEU\0n\0", &["FF FE"]),
+            (b"\xFE\xFF\0U\0n", &["FF FE"]),
+            (b"U\0n\0", &["zero bytes"]),
+            (b"Unruh\n", &["newline more"]),
+            (b"Unruh\r\n", &["newline more"]),
+            (b"\n", &["newline more"]),
+            (b"Unruh\nSpirale", &["more than one line"]),
+            (b"Unruh ", &["ends with a blank"]),
+            (b"Unruh\t", &["ends with a blank"]),
+            ("Unruh\u{A0}".as_bytes(), &["ends with a blank"]),
+            (b" Unruh", &["begins with a blank"]),
+            (
+                b"\xEF\xBB\xBFUnruh \r\n",
+                &["byte order mark", "newline more", "ends with a blank"],
+            ),
+        ] {
+            let found = oddities(password);
+            assert_eq!(found.len(), words.len(), "{password:?}: {found:?}");
+            for (found, word) in found.iter().zip(words) {
+                assert!(found.contains(word), "{password:?}: {found}");
+            }
+        }
+    }
 }
