@@ -8,7 +8,7 @@ use common::book::{clear_len, Book, Kind, BOF, FILEPASS, KINDS};
 use common::guarded::Guarded;
 use common::lent::Lent;
 use common::opening::refused;
-use sheet::{Fault, Record, Verdict};
+use sheet::{Choice, Fault, Record, Refusal, Verdict};
 use sheet::{PASSWORD_MAX_LEN, SCRATCH_LEN, STREAM_MAX_LEN};
 
 #[test]
@@ -312,4 +312,30 @@ fn document_01_s_listing() {
             Ok((18, 0x00E1, 2, 2)),
         ]
     );
+}
+
+#[test]
+fn vectors_are_as_long_as_the_stream() {
+    for kind in KINDS {
+        let book = Book::long(kind);
+        let (plain, report) = sheet::open_to_vec(&book.locked, book.password.as_bytes()).unwrap();
+        assert!(plain == book.plain);
+        assert_eq!(report, book.report_in(book.locked.len()));
+        let answer = sheet::open_to_vec(&book.locked, b"unruh");
+        assert_eq!(answer, Err(Refusal::WrongPassword));
+    }
+    // A stream that is too long is refused as by open, and needs no room.
+    let long = vec![0; STREAM_MAX_LEN + 1];
+    let choice = Choice::Xor;
+    for (password, refusal) in [
+        (&b"A"[..], Refusal::StreamTooLarge),
+        (b"\xFF", Refusal::PasswordMalformed),
+        (&[b'x'; PASSWORD_MAX_LEN + 1], Refusal::PasswordTooLong),
+    ] {
+        assert_eq!(sheet::open_to_vec(&long, password), Err(refusal));
+        assert_eq!(sheet::seal_to_vec(&long, password, &choice), Err(refusal));
+    }
+    let xor = [0x09, 0x08, 0, 0, 0, 0, 6, 0, 0, 0, 0, 0, 0, 0];
+    let (sealed, told) = sheet::seal_to_vec(&xor, b"A", &choice).unwrap();
+    assert_eq!(sheet::open_to_vec(&sealed, b"A"), Ok((xor.to_vec(), told)));
 }

@@ -311,3 +311,90 @@ fn a_c_program_reads_the_forecast() {
         }
     }
 }
+
+/// Calls every function with lengths of 0, with NULL beside them or with a pointer, and prints what
+/// comes of it: a stream from standard input whose password is empty, and parts that are empty.
+const NOTHING: &str = r#"
+#include <stdio.h>
+#include <string.h>
+#include "sheet.h"
+
+static uint8_t stream[1 << 12], output[1 << 12], sealed[1 << 12], scratch[SHEET_SCRATCH_LEN];
+static uint64_t facts[8];
+
+static void show(uint32_t number)
+{
+    printf("%u:", number);
+    for (int k = 0; k < 8; k++) {
+        printf(" %llu", (unsigned long long)facts[k]);
+        facts[k] = 9;
+    }
+    printf("\n");
+}
+
+int main(int count, char **arguments)
+{
+    static const uint8_t salt[16] = {1}, verifier[16] = {2};
+    static uint8_t there[1];
+    uint8_t *none = count == 2 && strcmp(arguments[1], "null") == 0 ? NULL : there;
+    size_t len = fread(stream, 1, sizeof stream, stdin), room = sizeof scratch;
+    show(sheet_look(none, 0, facts));
+    printf("%d %d\n", sheet_same_lock(none, 0, none, 0), sheet_same_lock(stream, len, none, 0));
+    show(sheet_record(none, 0, 0, facts));
+    show(sheet_record(none, 0, SIZE_MAX, facts));
+    show(sheet_directory(none, 0, 0, facts));
+    show(sheet_forecast(none, 0, facts));
+    show(sheet_open(stream, len, none, 0, scratch, room, output, len, facts));
+    show(sheet_open(stream, len, none, 0, none, 0, output, len, facts));
+    show(sheet_open(stream, len, none, 0, scratch, room, none, 0, facts));
+    show(sheet_open(none, 0, none, 0, scratch, room, none, 0, facts));
+    show(sheet_open(none, 0, none, 0, none, 0, none, 0, facts));
+    show(sheet_seal_xor(output, len, none, 0, scratch, room, sealed, len, facts));
+    show(sheet_seal_xor(none, 0, none, 0, scratch, room, none, 0, facts));
+    show(sheet_seal_office97(output, len, none, 0, salt, verifier, scratch, room, sealed, len, facts));
+    show(sheet_seal_office97(none, 0, none, 0, salt, verifier, none, 0, none, 0, facts));
+    show(sheet_seal_cryptoapi(output, len, none, 0, salt, verifier, 4, 128, scratch, room, sealed, len, facts));
+    show(sheet_seal_cryptoapi(none, 0, none, 0, salt, verifier, 4, 128, scratch, room, none, 0, facts));
+    fwrite(output, 1, len, stdout);
+    fwrite(sealed, 1, len, stdout);
+    return 0;
+}
+"#;
+
+#[test]
+fn null_goes_with_a_length_of_0() {
+    let folder = Folder::new();
+    let source = folder.write("nothing.c", NOTHING.as_bytes());
+    let records = [(BOF, vec![]), (FILEPASS, vec![]), (ROW, vec![7; 1010])];
+    let book = Book::new(Kind::Office97, "", &records);
+    let stream = folder.write("book", &book.locked);
+    let len = book.locked.len();
+    for level in ["-O0", "-O2"] {
+        let program = compile(&folder, &source, level);
+        let [null, pointer] = ["null", "pointer"].map(|kind| {
+            let mut command = Command::new(&program);
+            let ran = process::run(command.arg(kind).stdin(File::open(&stream).unwrap()));
+            assert_eq!((ran.status.code(), words(&ran.stderr)), (Some(0), ""));
+            ran.stdout
+        });
+        assert!(null == pointer);
+        let (text, streams) = null.split_at(null.len() - 2 * len);
+        let lines: Vec<&str> = words(text).lines().collect();
+        let refused = |number: u32, detail: usize| format!("{number}: {detail} 0 0 0 0 0 0 0");
+        assert_eq!(lines.len(), 17);
+        assert_eq!(lines[..2], ["0: 0 0 0 0 0 0 0 0", "0 0"]);
+        assert_eq!(lines[2..4], [refused(0, 0), refused(0, 0)]);
+        assert_eq!(lines[4..6], [refused(7, 0), refused(7, 0)]);
+        // The book opens with its empty password, and is sealed under it again.
+        let opened = format!("0: 3 1 40 0 {len} 1010 3 0");
+        assert_eq!(lines[6], opened);
+        assert_eq!(
+            lines[7..11],
+            [refused(3, 0), refused(5, 0), refused(7, 0), refused(3, 0)]
+        );
+        assert_eq!(lines[11..13], [refused(31, 54), refused(7, 0)]);
+        assert_eq!(lines[13..15], [opened, refused(3, 0)]);
+        assert_eq!(lines[15..], [refused(31, 54), refused(7, 0)]);
+        assert!(streams[..len] == book.plain);
+    }
+}
