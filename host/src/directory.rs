@@ -3,7 +3,7 @@
 use crate::ffi;
 use crate::refusal::Refusal;
 
-/// What the directory of a workbook tells of a place.
+/// What the directory of a workbook says of a place.
 #[derive(Clone, Copy, Debug, PartialEq, Eq)]
 pub struct Directory {
     /// How many sheets the workbook has, whatever the place: its BoundSheet8 records.
@@ -13,10 +13,10 @@ pub struct Directory {
     pub start: Option<usize>,
 }
 
-/// Tells how many sheets a workbook has, and where the one at a place starts.
+/// Gives how many sheets a workbook has, and where the one at a place starts.
 ///
-/// Places count from 0, in the order of the BoundSheet8 records. A start stands in the clear in a
-/// locked workbook too, and the stream that [`open`](crate::open()) gives has the same directory:
+/// Places count from 0, in the order of the BoundSheet8 records. A start is not enciphered in a
+/// locked workbook either, and the stream that [`open`](crate::open()) gives has the same directory:
 /// a sheet can be picked before a password is typed.
 ///
 /// ```

@@ -18,21 +18,21 @@ pub struct Forecast {
     pub block_keys: usize,
 }
 
-/// Tells what opening a stream will take, without a password.
+/// Gives what opening a stream will take, without a password.
 ///
 /// The four numbers are those of the [`Report`](crate::Report) that [`open`](crate::open()) gives
-/// with the right password. Padding, one to three zero bytes behind the last record, counts for the
+/// with the right password. Padding, one to three zero bytes after the last record, counts for the
 /// output bytes and the block keys alone.
 ///
 /// ```
 /// # fn main() -> Result<(), Box<dyn std::error::Error>> {
 /// let stream = std::fs::read("examples/calibres.bin")?;
-/// let told = sheet::forecast(&stream)?;
-/// assert_eq!(told.output_bytes, 3435);
-/// assert_eq!(told.records, 186);
-/// assert_eq!(told.enciphered_body_bytes, 2533);
+/// let forecast = sheet::forecast(&stream)?;
+/// assert_eq!(forecast.output_bytes, 3435);
+/// assert_eq!(forecast.records, 186);
+/// assert_eq!(forecast.enciphered_body_bytes, 2533);
 /// // One for the check, and four for the blocks, of which the last is not full.
-/// assert_eq!(told.block_keys, 5);
+/// assert_eq!(forecast.block_keys, 5);
 ///
 /// // Cut in the middle of its last record, an EOF of four bytes.
 /// let refusal = sheet::forecast(&stream[..3433]).unwrap_err();

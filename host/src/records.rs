@@ -19,12 +19,12 @@ pub struct Record {
     pub id: u16,
     /// The length of its body.
     pub len: usize,
-    /// How many of the body's first bytes stand in the clear in a locked workbook.
+    /// How many of the body's first bytes are not enciphered in a locked workbook.
     pub clear: usize,
 }
 
 impl Record {
-    /// Where its body stands in the stream.
+    /// Where its body is in the stream.
     pub fn body(&self) -> Range<usize> {
         let start = self.at + HEADER_LEN;
         start..start + self.len
@@ -52,7 +52,7 @@ impl fmt::Display for Fault {
 impl Error for Fault {}
 
 /// The records of a stream in order, ended by the first [`Fault`] if there is one. Nothing comes for
-/// padding, one to three zero bytes behind the last record. Made by [`records`].
+/// padding, one to three zero bytes after the last record. Made by [`records`].
 #[derive(Clone, Debug)]
 pub struct Records<'a> {
     stream: &'a [u8],

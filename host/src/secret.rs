@@ -59,14 +59,14 @@ impl Secret {
         Ok(())
     }
 
-    /// Reads up to a line's end, which is kept, or as [`Secret::read_from`] does. Bytes behind the
+    /// Reads up to a line's end, which is kept, or as [`Secret::read_from`] does. Bytes after the
     /// line's end that come with the same read count too: a terminal gives a line at a time.
     pub fn read_line_from(&mut self, source: &mut impl Read) -> io::Result<()> {
         while !self.as_bytes().contains(&b'\n') && self.read_once(source)? != 0 {}
         Ok(())
     }
 
-    /// Reads once and tells how many bytes came.
+    /// Reads once and returns how many bytes came.
     fn read_once(&mut self, source: &mut impl Read) -> io::Result<usize> {
         loop {
             match source.read(&mut self.room[self.len..]) {
