@@ -7,6 +7,7 @@ pub mod book;
 pub mod digest;
 pub mod folder;
 pub mod guarded;
+pub mod installed;
 pub mod lent;
 pub mod opening;
 pub mod parts;
