@@ -332,6 +332,30 @@ fn constants() -> BTreeMap<String, Option<String>> {
     found
 }
 
+/// The refusals of the header, each with what its comment says, as the page has it.
+fn refusals() -> BTreeMap<String, String> {
+    let header = text("include/sheet.h");
+    let (_, rest) = header.split_once("\nenum sheet_refusal {\n").unwrap();
+    let (list, _) = rest.split_once("\n};\n").unwrap();
+    let mut found = BTreeMap::new();
+    for part in list.split("/*").skip(1) {
+        let (comment, code) = part.split_once("*/").unwrap();
+        let (name, _) = code.trim().split_once(" = ").unwrap();
+        let words = squeezed(&comment.replace("\n     *", " "));
+        let (words, details) = match words.strip_suffix(']') {
+            Some(words) => words.rsplit_once(" [").unwrap(),
+            None => (&words[..], ""),
+        };
+        let (first, others) = words.split_at(1);
+        let mut said = format!("{}{others}.", first.to_uppercase());
+        if !details.is_empty() {
+            said += &format!(" Details: {details}.");
+        }
+        found.insert(name.to_string(), said);
+    }
+    found
+}
+
 /// The arguments of a line of a page, of which one may be in quotes.
 fn argument(line: &str) -> &str {
     line.trim_matches('"')
@@ -385,6 +409,14 @@ fn the_page_of_the_library_has_what_the_headers_have() {
         }
     }
     assert_eq!(found, constants);
+    let refusals = refusals();
+    assert!(refusals.len() >= 32);
+    for (name, said) in refusals {
+        let (_, rest) = page.split_once(&format!("\n.It Dv {name} Pq ")).unwrap();
+        let (_, rest) = rest.split_once('\n').unwrap();
+        let paragraph = rest.split("\n.").next().unwrap();
+        assert_eq!(squeezed(paragraph), said, "{name}");
+    }
     for name in behind(&page, "Dv") {
         assert!(name == "NULL" || constants.contains_key(&name), "{name}");
     }
