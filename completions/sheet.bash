@@ -10,7 +10,7 @@ _sheet() {
         before=$((before - 1))
     fi
     if [ "$COMP_CWORD" = 1 ]; then
-        choices='look list directory forecast open seal refusals --help --version'
+        choices='look list directory forecast open seal refusals -h --help -V --version'
         mapfile -t COMPREPLY < <(compgen -W "$choices" -- "$word")
         return
     fi

@@ -1,15 +1,15 @@
 # Completes the words of the command sheet, in fish.
 
 complete -c sheet -f
-complete -c sheet -n __fish_use_subcommand -a look -d 'Say whether the workbook is locked, and how'
+complete -c sheet -n __fish_use_subcommand -a look -d 'Show whether the workbook is locked, and how'
 complete -c sheet -n __fish_use_subcommand -a list -d 'List its records'
 complete -c sheet -n __fish_use_subcommand -a directory -d 'List its sheets and where they start'
-complete -c sheet -n __fish_use_subcommand -a forecast -d 'Say what opening it will take'
+complete -c sheet -n __fish_use_subcommand -a forecast -d 'Show what opening it will take'
 complete -c sheet -n __fish_use_subcommand -a open -d 'Open it with its password'
 complete -c sheet -n __fish_use_subcommand -a seal -d 'Seal a plain stream under a new password'
-complete -c sheet -n __fish_use_subcommand -a refusals -d 'Say what each number of a refusal means'
-complete -c sheet -n __fish_use_subcommand -l help -d 'Print the help'
-complete -c sheet -n __fish_use_subcommand -l version -d 'Print the version'
+complete -c sheet -n __fish_use_subcommand -a refusals -d 'List what each number of a refusal means'
+complete -c sheet -n __fish_use_subcommand -s h -l help -d 'Print the help'
+complete -c sheet -n __fish_use_subcommand -s V -l version -d 'Print the version'
 
 complete -c sheet -n '__fish_seen_subcommand_from look list directory forecast open seal' -F
 complete -c sheet -n '__fish_seen_subcommand_from look' -s q -l quiet -d 'Print nothing, and answer by the exit status'

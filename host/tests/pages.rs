@@ -35,7 +35,7 @@ fn words(list: &str) -> Words {
 /// The option that a word starts with: two dashes and a name, or a dash and a letter.
 fn option(word: &str) -> Option<String> {
     let name = word.trim_start_matches('-');
-    if !name.starts_with(|first: char| first.is_ascii_lowercase()) {
+    if !name.starts_with(|first: char| first.is_ascii_alphabetic()) {
         return None;
     }
     let end = name.find(|each: char| !each.is_ascii_lowercase() && each != '-');
@@ -61,6 +61,9 @@ fn help_commands() -> Words {
     };
     help.lines().filter_map(first).collect()
 }
+
+/// The options in place of a command.
+const FIRST: &str = "-h --help -V --version";
 
 const LOCKS: &str = "cryptoapi office97 xor";
 const KEY_SIZES: &str = "40 48 56 64 72 80 88 96 104 112 120 128";
@@ -137,10 +140,10 @@ fn completed_by_bash(line: &[&str]) -> Words {
 fn bash_completes_what_the_help_has() {
     let commands = help_commands();
     let mut first = commands.clone();
-    first.extend(words("--help --version"));
+    first.extend(words(FIRST));
     assert_eq!(completed_by_bash(&["sheet", ""]), first);
     assert_eq!(completed_by_bash(&["sheet", "op"]), words("open"));
-    let mut all = words("--help --version");
+    let mut all = words(FIRST);
     for command in &commands {
         all.extend(completed_by_bash(&["sheet", command, "-"]));
         assert_eq!(completed_by_bash(&["sheet", command, ""]), words(""));
@@ -218,12 +221,12 @@ fn zsh_completes_what_the_help_has() {
     }
     found.insert("refusals".to_string(), Words::new());
     assert_eq!(found, of_bash());
-    for option in ["--help[", "--version["] {
-        assert!(
-            script.contains(&format!("_arguments '{option}"))
-                || script.contains(&format!(" '{option}"))
-        );
-    }
+    let (_, first) = script
+        .split_once("\nif (( CURRENT == 2 )); then\n")
+        .unwrap();
+    let (_, first) = first.split_once("_arguments ").unwrap();
+    let (first, _) = first.split_once("\n").unwrap();
+    assert_eq!(options(first), words(FIRST));
     for values in [LOCKS, KEY_SIZES, MAJORS] {
         assert_eq!(script.matches(&format!(":({values})'")).count(), 1);
     }
@@ -257,7 +260,7 @@ fn fish_completes_what_the_help_has() {
     }
     found.insert("refusals".to_string(), Words::new());
     assert_eq!(commands, help_commands());
-    assert_eq!(first, words("--help --version"));
+    assert_eq!(first, words(FIRST));
     assert_eq!(found, of_bash());
     for values in [LOCKS, KEY_SIZES, MAJORS] {
         assert_eq!(script.matches(&format!(" -x -a '{values}'")).count(), 1);
