@@ -19,11 +19,12 @@ use common::pty::Terminal;
 
 const SIGINT: c_int = 2;
 
-/// Notes that it runs, says of each crate that it is proved, and writes an archive. It waits where a
-/// file `wait` is, and fails where a file `fail` is.
+/// Notes that it runs, takes all of standard input, says of each crate that it is proved, and writes
+/// an archive. It waits where a file `wait` is, and fails where a file `fail` is.
 const RT: &str = r#"#!/usr/bin/env bash
 [ "$*" = "staticlib sheet" ] && [ -z "${SHEET_PASSWORD+set}" ] || exit 9
 echo run >>"$TRIES/rt"
+cat >/dev/null
 for name in laws word limits padding rc4 sensitive; do
     echo "library $name: some words of the prover"
     echo "rt: $name proved (3 s)" >&2
@@ -40,6 +41,7 @@ echo archive >target/staticlib/libsheet.a
 /// Makes a command that prints the archive, where it is, its arguments and its standard input.
 const CARGO: &str = r#"#!/usr/bin/env bash
 echo run >>"$TRIES/cargo"
+cat >/dev/null
 [ ! -e "$TRIES/fail-cargo" ] || { echo "error: cargo's own words" >&2; exit 101; }
 mkdir -p target/release
 {
