@@ -1,5 +1,5 @@
-//! The script `./sheet`, over an rt and a cargo that only act as if: what it says, when it builds,
-//! and that it passes everything on to the command. Needs flock, signals and a terminal.
+//! The script `./sheet`, with scripts in place of rt and cargo: what it says, when it builds, and
+//! that it passes everything on to the command. Needs flock, signals and a terminal.
 
 mod common;
 
