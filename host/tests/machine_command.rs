@@ -37,7 +37,6 @@ fn a_file_above_a_gibibyte_is_not_read() {
     let file = File::create(bench.folder.join("huge")).unwrap();
     file.set_len(sheet::STREAM_MAX_LEN as u64 + 1).unwrap();
     for command in [
-        "look",
         "list",
         "directory",
         "forecast",

@@ -328,10 +328,15 @@ fn what_can_t_be_sealed_needs_no_password() {
 
 #[test]
 fn a_book_that_is_not_locked_needs_no_password() {
-    let session = Session::start("open before -o plain");
-    let (status, output, shown) = session.end();
-    assert_eq!((&status[..], &shown[..]), ("1", ""));
-    assert!(output.stderr.starts_with(b"refused, "));
+    for (file, status, said) in [
+        ("sheet.bin", "1", &b"refused, 8: "[..]),
+        ("before", "2", b"sheet: before: this is a text file"),
+    ] {
+        let session = Session::start(&format!("open {file} -o plain"));
+        let (ended, output, shown) = session.end();
+        assert_eq!((&ended[..], &shown[..]), (status, ""));
+        assert!(output.stderr.starts_with(said));
+    }
 }
 
 #[test]
