@@ -14,6 +14,9 @@
  * record, all zero, are padding, as one spreadsheet program writes it: they are not a record, but count for the length of the
  * stream. Four zero bytes are a record of id 0 without a body.
  *
+ * The object has no CET properties: a program that links it runs without IBT and shadow stack, and IBT must not be forced
+ * (docs/TRUST.md, "The archive").
+ *
  * sheet_words.h has the refusals in words, for hosts that want to show them. */
 #ifndef SHEET_H
 #define SHEET_H
