@@ -25,6 +25,7 @@ pub struct Record {
 
 impl Record {
     /// Where its body is in the stream.
+    #[must_use]
     pub fn body(&self) -> Range<usize> {
         let start = self.at + HEADER_LEN;
         start..start + self.len
@@ -54,6 +55,7 @@ impl Error for Fault {}
 /// The records of a stream in order, ended by the first [`Fault`] if there is one. Nothing comes for
 /// padding, one to three zero bytes after the last record. Made by [`records`].
 #[derive(Clone, Debug)]
+#[must_use = "nothing is read before the first record is asked for"]
 pub struct Records<'a> {
     stream: &'a [u8],
     at: usize,

@@ -32,6 +32,7 @@ pub struct Secret {
 
 impl Secret {
     /// An empty password with room for the longest one.
+    #[must_use]
     pub fn new() -> Self {
         Secret {
             room: vec![0; ROOM],
@@ -40,6 +41,7 @@ impl Secret {
     }
 
     /// The password in bytes that are there already. They are not copied.
+    #[must_use]
     pub fn from_vec(bytes: Vec<u8>) -> Self {
         Secret {
             len: bytes.len(),
@@ -48,6 +50,7 @@ impl Secret {
     }
 
     /// The password.
+    #[must_use]
     pub fn as_bytes(&self) -> &[u8] {
         &self.room[..self.len]
     }
