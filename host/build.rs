@@ -1,7 +1,7 @@
 //! Has the library proved and links it.
 //!
 //! Runs `rt staticlib sheet` at the root of the project, which proves every crate that changed and
-//! writes `target/staticlib/libsheet.a`: some minutes from nothing, seconds afterwards. Where the
+//! writes `target/staticlib/libsheet.a`: some minutes from nothing, half a minute afterwards. Where the
 //! Rattle kit is not at hand, the environment variable `SHEET_ARCHIVE` takes its place: the path of
 //! a `libsheet.a` that was made elsewhere (a relative path counts from `host/`).
 
