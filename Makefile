@@ -1,6 +1,6 @@
 # Builds and installs the library and the command: ./sheet and tools/install do it, and say what they need.
-PREFIX = /usr/local
-DESTDIR =
+PREFIX ?= /usr/local
+DESTDIR ?=
 export PREFIX DESTDIR
 
 all:

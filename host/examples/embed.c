@@ -9,6 +9,7 @@
  *
  * -z now has all functions bound at the start: bound at their first call, they would have the vector registers saved to the
  * stack, in which parts of what is to be wiped are left. */
+#define _DEFAULT_SOURCE /* For getentropy, where the compiler is asked for a standard alone. */
 #include <fcntl.h>
 #include <stdio.h>
 #include <string.h>

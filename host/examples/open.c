@@ -3,10 +3,12 @@
  *   gcc host/examples/open.c $(pkg-config --cflags --libs sheet) -o open
  *   ./open host/examples/calibres.bin host/examples/calibres.password plain.bin
  *
- * Exit status: 0 opened, 1 refused, 2 a file can't be read or written.
+ * OUT is replaced if it is there, so it must not be FILE. Exit status: 0 opened, 1 refused, 2 a file can't be read or
+ * written.
  *
  * This wipes its copy of the password and no more. What is left of it on the stack and in registers, embed.c wipes too. */
 #include <stdio.h>
+#include <sys/stat.h>
 
 #include "sheet_words.h"
 
@@ -59,6 +61,8 @@ int main(int count, char **arguments)
         return 1;
     }
 
+    /* A new file is for its owner alone, as it is plain. */
+    umask(077);
     FILE *out = fopen(arguments[3], "wb");
     if (out == NULL || fwrite(plain, 1, (size_t)len, out) != (size_t)len || fclose(out) != 0) {
         fprintf(stderr, "%s can't be written\n", arguments[3]);

@@ -9,7 +9,7 @@ use std::path::Path;
 use std::process::{Command, Stdio};
 
 use common::folder::Folder;
-use common::installed::{file, settle, settle_silently, try_examples};
+use common::installed::{file, install, install_silently, try_examples};
 use common::process;
 
 /// The files below the prefix that anyone may read, beside the command.
@@ -67,11 +67,11 @@ fn files(folder: &Path) -> Vec<(String, u32)> {
 fn installs_the_list_and_takes_it_away() {
     let folder = Folder::new();
     let stage = folder.join("a stage");
-    let prefix = Path::new("/opt/some prefix");
-    let usr = stage.join("opt/some prefix");
+    let prefix = Path::new("/opt/some-prefix");
+    let usr = stage.join("opt/some-prefix");
     // A second time, over what is there.
     for _ in 0..2 {
-        settle_silently(&mut tool(), prefix, &stage);
+        install_silently(&mut tool(), prefix, &stage);
         let mut expected = FILES.map(|name| (name.to_string(), 0o644)).to_vec();
         expected.push(("bin/sheet".to_string(), 0o755));
         expected.sort();
@@ -96,7 +96,7 @@ fn installs_the_list_and_takes_it_away() {
     assert_eq!(run.status.code(), Some(0));
     assert_eq!(run.stdout, format!("sheet {version}\n").into_bytes());
     let pc = fs::read_to_string(usr.join("lib/pkgconfig/sheet.pc")).unwrap();
-    assert!(pc.starts_with("prefix=/opt/some prefix\n"), "{pc}");
+    assert!(pc.starts_with("prefix=/opt/some-prefix\n"), "{pc}");
     assert!(pc.contains(&format!("\nVersion: {version}\n")), "{pc}");
     assert!(!pc.contains('@'), "{pc}");
 
@@ -104,7 +104,7 @@ fn installs_the_list_and_takes_it_away() {
     for name in ["lib/libother.a", "share/doc/sheet/notes"] {
         fs::write(usr.join(name), "").unwrap();
     }
-    settle_silently(tool().arg("--uninstall"), prefix, &stage);
+    install_silently(tool().arg("--uninstall"), prefix, &stage);
     let names = files(&usr).into_iter().map(|(name, _)| name);
     assert_eq!(
         names.collect::<Vec<_>>(),
@@ -113,10 +113,10 @@ fn installs_the_list_and_takes_it_away() {
     fs::remove_file(usr.join("lib/libother.a")).unwrap();
     fs::remove_file(usr.join("share/doc/sheet/notes")).unwrap();
     // A second time, where nothing is left but folders.
-    settle_silently(tool().arg("--uninstall"), prefix, &stage);
+    install_silently(tool().arg("--uninstall"), prefix, &stage);
     assert_eq!(files(&usr), []);
     assert!(!usr.join("share/doc/sheet").exists());
-    settle_silently(tool().arg("--uninstall"), prefix, &folder.join("none"));
+    install_silently(tool().arg("--uninstall"), prefix, &folder.join("none"));
     assert!(!folder.join("none").exists());
 }
 
@@ -127,8 +127,9 @@ fn refuses_what_it_does_not_know() {
         (&["--remove"][..], "/usr"),
         (&["--uninstall", "now"], "/usr"),
         (&[], "usr"),
+        (&[], "/opt/some prefix"),
     ] {
-        let run = settle(tool().args(words), Path::new(prefix), folder.path());
+        let run = install(tool().args(words), Path::new(prefix), folder.path());
         assert_eq!(run.status.code(), Some(2));
         assert!(run.stderr.starts_with(b"tools/install: "));
         assert_eq!(folder.names(), [""; 0]);
@@ -164,7 +165,7 @@ fn flags(pc: &str) -> Vec<String> {
 fn c_programs_are_compiled_over_it() {
     let folder = Folder::new();
     let prefix = folder.join("prefix");
-    settle_silently(&mut tool(), &prefix, Path::new(""));
+    install_silently(&mut tool(), &prefix, Path::new(""));
     let pc = fs::read_to_string(prefix.join("lib/pkgconfig/sheet.pc")).unwrap();
     let flags = flags(&pc);
     let at = prefix.display();

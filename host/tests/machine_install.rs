@@ -6,17 +6,22 @@ use std::path::Path;
 use std::process::{Command, Stdio};
 
 use common::folder::Folder;
-use common::installed::{file, settle, try_examples};
+use common::installed::{file, install, try_examples};
 use common::process;
 
 #[track_caller]
-fn make(words: &[&str], prefix: &Path, stage: &Path) {
+fn make(words: &[&str], by_words: bool, prefix: &Path, stage: &Path) {
     let mut make = Command::new("make");
     make.arg("-C").arg(file(".")).args(words);
-    make.arg(format!("PREFIX={}", prefix.display()))
-        .arg(format!("DESTDIR={}", stage.display()));
-    // The variables in its arguments are those that count.
-    let run = settle(&mut make, Path::new("/none"), Path::new("/none"));
+    let run = match by_words {
+        // The variables in its arguments are those that count.
+        true => {
+            make.arg(format!("PREFIX={}", prefix.display()))
+                .arg(format!("DESTDIR={}", stage.display()));
+            install(&mut make, Path::new("/none"), Path::new("/none"))
+        }
+        false => install(&mut make, prefix, stage),
+    };
     let said = String::from_utf8_lossy(&run.stderr);
     assert!(run.status.success() && said.is_empty(), "{said}");
 }
@@ -25,7 +30,7 @@ fn make(words: &[&str], prefix: &Path, stage: &Path) {
 fn make_installs_and_pkg_config_finds_it() {
     let folder = Folder::new();
     let prefix = folder.join("prefix");
-    make(&["install"], &prefix, Path::new(""));
+    make(&["install"], true, &prefix, Path::new(""));
     let mut command = Command::new("pkg-config");
     command
         .args(["--cflags", "--libs", "sheet"])
@@ -37,11 +42,13 @@ fn make_installs_and_pkg_config_finds_it() {
     let flags = String::from_utf8(run.stdout).unwrap();
     try_examples(&folder, &flags.split_whitespace().collect::<Vec<_>>());
 
-    let stage = folder.join("stage");
-    make(&["install"], Path::new("/usr"), &stage);
-    assert!(stage.join("usr/lib/libsheet.a").is_file());
-    make(&["uninstall"], Path::new("/usr"), &stage);
-    assert!(!stage.join("usr/lib/libsheet.a").exists());
-    assert!(!stage.join("usr/bin/sheet").exists());
+    for by_words in [true, false] {
+        let stage = folder.join("stage");
+        make(&["install"], by_words, Path::new("/usr"), &stage);
+        assert!(stage.join("usr/lib/libsheet.a").is_file());
+        make(&["uninstall"], by_words, Path::new("/usr"), &stage);
+        assert!(!stage.join("usr/lib/libsheet.a").exists());
+        assert!(!stage.join("usr/bin/sheet").exists());
+    }
     assert!(prefix.join("bin/sheet").is_file());
 }

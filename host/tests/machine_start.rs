@@ -144,7 +144,7 @@ fn builds_once_and_says_so() {
     let clone = Clone::new();
     let said = clone.check(&clone.run());
     let lines: Vec<&str> = said.lines().collect();
-    let expected = "sheet: the first use here: the command is built first; rt, cargo and cc are ";
+    let expected = "sheet: the first use here: the command is built first; this needs rt, cargo ";
     assert!(lines[0].starts_with(expected), "{said}");
     assert!(lines[1].starts_with("sheet: proving the library, 22 crates: 6 minutes"));
     for (line, name) in lines[2..].iter().zip(["laws", "word", "limits", "padding"]) {
@@ -211,9 +211,13 @@ fn builds_again_where_a_source_changed() {
     }
     fs::remove_file(clone.root().join("crates/laws/new")).unwrap();
     assert_ne!(clone.check(&clone.run()), "");
-    fs::remove_file(clone.root().join("host/target/release/sheet")).unwrap();
-    assert_ne!(clone.check(&clone.run()), "");
-    assert_eq!(clone.check(&clone.run()), "");
+    // The command, and the archive, which tools/install needs: rt ci removes target/.
+    for part in ["host/target/release/sheet", "target/staticlib/libsheet.a"] {
+        fs::remove_file(clone.root().join(part)).unwrap();
+        assert_ne!(clone.check(&clone.run()), "", "{part}");
+        assert!(clone.root().join(part).is_file());
+        assert_eq!(clone.check(&clone.run()), "");
+    }
 }
 
 #[test]
@@ -225,7 +229,7 @@ fn links_an_archive_that_was_made_elsewhere() {
     let with = |archive: &str| process::run(clone.command().env("SHEET_ARCHIVE", archive));
     let run = with("../other.a");
     assert_eq!(text(&run.stdout), clone.printed("other", ""));
-    assert!(text(&run.stderr).contains("; with SHEET_ARCHIVE set, cargo and cc are "));
+    assert!(text(&run.stderr).contains("; with SHEET_ARCHIVE set, this needs cargo and "));
     assert_eq!(text(&with("../other.a").stderr), "");
     fs::write(clone.root().join("other.a"), "another").unwrap();
     assert_eq!(

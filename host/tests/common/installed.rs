@@ -14,7 +14,7 @@ pub fn file(path: &str) -> PathBuf {
 }
 
 /// Has a program install what these tests are built with, or take it away.
-pub fn settle(program: &mut Command, prefix: &Path, stage: &Path) -> Output {
+pub fn install(program: &mut Command, prefix: &Path, stage: &Path) -> Output {
     program
         .env("PREFIX", prefix)
         .env("DESTDIR", stage)
@@ -26,8 +26,8 @@ pub fn settle(program: &mut Command, prefix: &Path, stage: &Path) -> Output {
 
 /// The same, which has to succeed without a word.
 #[track_caller]
-pub fn settle_silently(program: &mut Command, prefix: &Path, stage: &Path) {
-    let run = settle(program, prefix, stage);
+pub fn install_silently(program: &mut Command, prefix: &Path, stage: &Path) {
+    let run = install(program, prefix, stage);
     let said = [run.stdout, run.stderr].concat();
     let said = String::from_utf8_lossy(&said);
     assert!(run.status.success() && said.is_empty(), "{said}");
