@@ -21,7 +21,7 @@ fn main() {
     let out = PathBuf::from(env::var_os("OUT_DIR").expect("cargo sets OUT_DIR"));
     let archive = match env::var_os("SHEET_ARCHIVE") {
         Some(path) => ready(&host, Path::new(&path)),
-        None => proved(host.parent().expect("host/ stands in the project")),
+        None => proved(host.parent().expect("host/ is in the project")),
     };
     // A copy of our own, so that what is linked stays as it is while the project is proved anew.
     let linked = out.join("libsheet.a");

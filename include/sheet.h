@@ -5,7 +5,7 @@
  * passes. Every function is proved to end, to do nothing undefined and to return what the definitions in the crates' specs/
  * say (docs/TRUST.md lists them), for all arguments that follow these rules:
  *
- *   - A pointer with a length points to that many bytes. With a length of 0 any pointer will do, also NULL.
+ *   - A pointer with a length points to that many bytes. With a length of 0 any pointer is allowed, including NULL.
  *   - facts points to eight numbers; salt and verifier point to 16 bytes each. None of these three is ever NULL.
  *   - What is written (scratch, output, facts) does not overlap anything else that is passed to the same call.
  *   - No other thread writes to the memory of a call while it runs. Calls on different memory may run at the same time.
@@ -67,8 +67,8 @@ enum sheet_refusal {
     SHEET_REFUSED_WORKBOOK_BOF_MISSING = 7,
     /* there is no FILEPASS record, so the workbook is not locked */
     SHEET_REFUSED_NOT_ENCRYPTED = 8,
-    /* another record comes before FILEPASS than the format allows [its id; 0x0086 is WriteProtect: the book was also
-     * saved as "read-only recommended" or with a password to modify, and some programs do open such books] */
+    /* a record that the format does not allow there comes before FILEPASS [its id; 0x0086 is WriteProtect: the book was
+     * also saved as "read-only recommended" or with a password to modify, and some programs do open such books] */
     SHEET_REFUSED_FILEPASS_OUT_OF_ORDER = 9,
     /* the FILEPASS record is cut off [bytes there, bytes needed] */
     SHEET_REFUSED_FILEPASS_TRUNCATED = 10,
@@ -86,11 +86,11 @@ enum sheet_refusal {
     SHEET_REFUSED_ENCRYPTION_HEADER_SIZE_OUT_OF_RANGE = 16,
     /* the CryptoAPI lock's header is cut off [the size, bytes of the lock] */
     SHEET_REFUSED_ENCRYPTION_HEADER_SIZE_OUT_OF_BOUNDS = 17,
-    /* the CryptoAPI lock is enciphered by a provider of its own (flag 0x10) [the flags] */
+    /* the CryptoAPI lock uses an external provider (flag 0x10) [the flags] */
     SHEET_REFUSED_FLAG_EXTERNAL = 18,
-    /* the CryptoAPI lock says AES (flag 0x20), which no such workbook has [the flags] */
+    /* the CryptoAPI lock uses AES (flag 0x20), which no .xls workbook does [the flags] */
     SHEET_REFUSED_FLAG_AES = 19,
-    /* the CryptoAPI lock does not say CryptoAPI (flag 0x04) [the flags] */
+    /* the CryptoAPI lock does not use CryptoAPI (flag 0x04) [the flags] */
     SHEET_REFUSED_FLAG_CRYPTO_API_CLEAR = 20,
     /* the CryptoAPI lock's cipher is not RC4 [AlgID] */
     SHEET_REFUSED_UNSUPPORTED_ALG_ID = 21,
@@ -192,7 +192,7 @@ enum sheet_lock {
 
 /* Whether a workbook is locked, by its first 1,048,576 bytes at most.
  *
- * Returns SHEET_LOOK_UNKNOWN if this is not a workbook stream or is cut off before it shows, SHEET_LOOK_NO, or SHEET_LOOK_YES.
+ * Returns SHEET_LOOK_UNKNOWN if this is not a workbook stream or is cut off too early, SHEET_LOOK_NO, or SHEET_LOOK_YES.
  * A stream that has only records that are never enciphered, and no FILEPASS, is unknown too, with padding at its end or
  * without.
  *
@@ -326,8 +326,8 @@ SHEET_MUST_CHECK uint32_t sheet_open(const uint8_t *stream, size_t stream_len, c
  * 0x0809, 0x00E1, 0x0138, 0x0194, 0x0195 and 0x0196. So it is the first record with any other id, or there is none (30). A
  * stream that sheet_open wrote has one where its FILEPASS record was. The sealed stream has the length of the plain one: the
  * zero record becomes a FILEPASS record of the same length, every other body is enciphered except for what sheet_record
- * reports as clear, and headers and padding stay as they are. A FILEPASS record after the zero record is no obstacle, and
- * stays as it is too. sheet_open with the same password is proved to give the plain stream again, bit for bit.
+ * reports as clear, and headers and padding stay as they are. A FILEPASS record after the zero record does not matter,
+ * and stays as it is too. sheet_open with the same password is proved to give the plain stream again, bit for bit.
  *
  * The password is UTF-8, without a terminating zero. All eight facts are written, whatever is returned.
  *

@@ -31,7 +31,7 @@ static inline const char *sheet_refusal_words(uint32_t number)
     case SHEET_REFUSED_NOT_ENCRYPTED:
         return "there is no FILEPASS record, so the workbook is not locked";
     case SHEET_REFUSED_FILEPASS_OUT_OF_ORDER:
-        return "another record comes before FILEPASS than the format allows";
+        return "a record that the format does not allow there comes before FILEPASS";
     case SHEET_REFUSED_FILEPASS_TRUNCATED:
         return "the FILEPASS record is cut off";
     case SHEET_REFUSED_FILEPASS_ENCRYPTION_TYPE:
@@ -49,11 +49,11 @@ static inline const char *sheet_refusal_words(uint32_t number)
     case SHEET_REFUSED_ENCRYPTION_HEADER_SIZE_OUT_OF_BOUNDS:
         return "the CryptoAPI lock's header is cut off";
     case SHEET_REFUSED_FLAG_EXTERNAL:
-        return "the CryptoAPI lock is enciphered by a provider of its own (flag 10)";
+        return "the CryptoAPI lock uses an external provider (flag 10)";
     case SHEET_REFUSED_FLAG_AES:
-        return "the CryptoAPI lock says AES (flag 20), which no such workbook has";
+        return "the CryptoAPI lock uses AES (flag 20), which no .xls workbook does";
     case SHEET_REFUSED_FLAG_CRYPTO_API_CLEAR:
-        return "the CryptoAPI lock does not say CryptoAPI (flag 04)";
+        return "the CryptoAPI lock does not use CryptoAPI (flag 04)";
     case SHEET_REFUSED_UNSUPPORTED_ALG_ID:
         return "the CryptoAPI lock's cipher is not RC4";
     case SHEET_REFUSED_UNSUPPORTED_ALG_ID_HASH:

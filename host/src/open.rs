@@ -69,7 +69,7 @@ pub struct Report {
 /// one to three zero bytes after the last record, is unchanged; so is the rest of the output. On a
 /// refusal the whole output is unchanged. The scratch has [`SCRATCH_LEN`] bytes or more. Its first
 /// [`SCRATCH_LEN`] bytes end zero, except on refusals 1 to 5, which leave it unchanged; the rest is
-/// unchanged, however long it is. [`open_to_vec`] takes care of both.
+/// unchanged, however long it is. `open_to_vec`, with the feature `alloc`, takes care of both.
 ///
 /// What the call leaves of the password in registers and on the stack is overwritten before this
 /// returns, for which the thread needs 16 KiB of stack. The caller's own copy stays: `Secret`, with

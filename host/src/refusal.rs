@@ -45,7 +45,7 @@ pub enum Refusal {
     WorkbookBofMissing,
     /// 8: there is no FILEPASS record, so the workbook is not locked.
     NotEncrypted,
-    /// 9: another record comes before FILEPASS than the format allows.
+    /// 9: a record that the format does not allow there comes before FILEPASS.
     FilepassOutOfOrder {
         /// Its id. 0086 is WriteProtect.
         id: u16,
@@ -96,17 +96,17 @@ pub enum Refusal {
         /// The bytes of the lock.
         len: usize,
     },
-    /// 18: the CryptoAPI lock is enciphered by a provider of its own (flag 10).
+    /// 18: the CryptoAPI lock uses an external provider (flag 10).
     FlagExternal {
         /// The flags.
         flags: u32,
     },
-    /// 19: the CryptoAPI lock says AES (flag 20), which no such workbook has.
+    /// 19: the CryptoAPI lock uses AES (flag 20), which no .xls workbook does.
     FlagAes {
         /// The flags.
         flags: u32,
     },
-    /// 20: the CryptoAPI lock does not say CryptoAPI (flag 04).
+    /// 20: the CryptoAPI lock does not use CryptoAPI (flag 04).
     FlagCryptoApiClear {
         /// The flags.
         flags: u32,
@@ -198,7 +198,7 @@ impl Refusal {
         })
     }
 
-    /// Its number, 1 to [`REFUSALS`].
+    /// Its number: 1 to [`REFUSALS`], or that of an unknown one.
     #[must_use]
     pub fn number(&self) -> u32 {
         match *self {
@@ -297,7 +297,7 @@ impl Refusal {
             Refusal::BiffRecordUnreadable { .. } => "a record can't be read: its header or its body is cut off, and what is left is not padding",
             Refusal::WorkbookBofMissing => "the stream does not start with a BOF record",
             Refusal::NotEncrypted => "there is no FILEPASS record, so the workbook is not locked",
-            Refusal::FilepassOutOfOrder { .. } => "another record comes before FILEPASS than the format allows",
+            Refusal::FilepassOutOfOrder { .. } => "a record that the format does not allow there comes before FILEPASS",
             Refusal::FilepassTruncated { .. } => "the FILEPASS record is cut off",
             Refusal::FilepassEncryptionType { .. } => "the FILEPASS record names a lock that is not known",
             Refusal::EncryptionVersionInfoTruncated { .. } => "the lock's version is cut off",
@@ -306,9 +306,9 @@ impl Refusal {
             Refusal::EncryptionInfoTruncated { .. } => "the CryptoAPI lock is cut off",
             Refusal::EncryptionHeaderSizeOutOfRange { .. } => "the CryptoAPI lock's header does not have 32 to 1,024 bytes",
             Refusal::EncryptionHeaderSizeOutOfBounds { .. } => "the CryptoAPI lock's header is cut off",
-            Refusal::FlagExternal { .. } => "the CryptoAPI lock is enciphered by a provider of its own (flag 10)",
-            Refusal::FlagAes { .. } => "the CryptoAPI lock says AES (flag 20), which no such workbook has",
-            Refusal::FlagCryptoApiClear { .. } => "the CryptoAPI lock does not say CryptoAPI (flag 04)",
+            Refusal::FlagExternal { .. } => "the CryptoAPI lock uses an external provider (flag 10)",
+            Refusal::FlagAes { .. } => "the CryptoAPI lock uses AES (flag 20), which no .xls workbook does",
+            Refusal::FlagCryptoApiClear { .. } => "the CryptoAPI lock does not use CryptoAPI (flag 04)",
             Refusal::UnsupportedAlgId { .. } => "the CryptoAPI lock's cipher is not RC4",
             Refusal::UnsupportedAlgIdHash { .. } => "the CryptoAPI lock's hash is not SHA-1",
             Refusal::EncryptionHeaderKeySize { .. } => "the CryptoAPI lock's key size is not 40 to 128 bits in steps of 8, nor 0 in a book that is opened",
@@ -346,7 +346,7 @@ impl Refusal {
             }
             Refusal::BiffRecordUnreadable { .. } => {
                 "the stream is cut short or is not a workbook stream: take it out of the .xls file \
-                 again, or get another copy; zeros at its end are not the cause"
+                 again, or get another copy"
             }
             Refusal::WorkbookBofMissing => {
                 "this is not a workbook stream: take the stream named Workbook out of the .xls \
@@ -378,8 +378,9 @@ impl Refusal {
                 "the stream is damaged: get another copy of the book"
             }
             Refusal::EncryptionHeaderKeySize { .. } => {
-                "the book was locked by a program that does it differently, or is damaged: open it \
-                 there and save it again, or get another copy; to seal, choose 40 to 128, best 128"
+                "the book was locked in a way that is not supported, or is damaged: open it in the \
+                 program that locked it and save it again, or get another copy; to seal, choose 40 \
+                 to 128, best 128"
             }
             Refusal::EncryptionHeaderSizeOutOfRange { .. }
             | Refusal::EncryptionHeaderSizeOutOfBounds { .. }
@@ -390,8 +391,8 @@ impl Refusal {
             | Refusal::UnsupportedAlgIdHash { .. }
             | Refusal::VerifierSaltSize { .. }
             | Refusal::VerifierHashSize { .. } => {
-                "the book was locked by a program that does it differently, or is damaged: open it \
-                 there and save it again, or get another copy"
+                "the book was locked in a way that is not supported, or is damaged: open it in the \
+                 program that locked it and save it again, or get another copy"
             }
             Refusal::WrongPassword => {
                 "check upper and lower case, the keyboard layout, accents and special characters; a \
@@ -403,9 +404,8 @@ impl Refusal {
                  or get another copy"
             }
             Refusal::ZeroRecordMissing => {
-                "a stream that is locked already is opened first; one that was opened is sealed as \
-                 it came out; any other has no room for a lock: ask the maker of the sheet for one \
-                 that has"
+                "if it is still locked, open it first; if it was opened here, seal that output; any \
+                 other stream has no room for a lock: ask the maker of the sheet for one that has"
             }
             Refusal::ZeroRecordLength { .. } => {
                 "choose a lock that fits, if there is one, or ask the maker of the sheet for one with \

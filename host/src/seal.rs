@@ -75,7 +75,8 @@ impl fmt::Debug for Choice {
 /// `output[..plain.len()]` is the sealed stream; the rest of the output is unchanged. On a refusal the
 /// whole output is unchanged. The scratch has [`SCRATCH_LEN`](crate::SCRATCH_LEN) bytes or more; its
 /// first [`SCRATCH_LEN`](crate::SCRATCH_LEN) bytes end zero, except on refusals 1 to 5, which leave it
-/// unchanged; the rest is unchanged, however long it is. [`seal_to_vec`] takes care of both.
+/// unchanged; the rest is unchanged, however long it is. `seal_to_vec`, with the feature `alloc`,
+/// takes care of both.
 ///
 /// What the call leaves of the password in registers and on the stack is overwritten before this
 /// returns, as [`open`](crate::open()) does it.

@@ -246,8 +246,8 @@ fn forecast_refuses_by_number() {
         ),
         (
             Book::new(Kind::Xor, "A", &protected).locked,
-            "refused, 9: another record comes before FILEPASS than the format allows: WriteProtect, \
-             id 0086; ",
+            "refused, 9: a record that the format does not allow there comes before FILEPASS: \
+             WriteProtect, id 0086; ",
         ),
         (
             odd,
@@ -578,7 +578,7 @@ fn the_input_is_never_the_output() {
     let before = bench.read("calibres.bin");
     fs::hard_link(bench.folder.join("calibres.bin"), bench.folder.join("hard")).unwrap();
     symlink("calibres.bin", bench.folder.join("soft")).unwrap();
-    let same = "the very file that is read";
+    let same = "this is the input file";
     for file in ["calibres.bin", "hard", "soft", "./calibres.bin"] {
         for out in ["calibres.bin", "hard", "soft", "./calibres.bin"] {
             let ran = bench.run_with(&format!("open {file} -o {out}"), PASSWORD);

@@ -234,12 +234,12 @@ fn bytes_of_a_password_that_were_not_meant_are_named() {
         (
             format!("{PASSWORD}\n\n").into_bytes(),
             27,
-            &["ends with a newline more"],
+            &["ends with an extra line end"],
         ),
         (
             format!("{PASSWORD}\r\n\r\n").into_bytes(),
             27,
-            &["ends with a newline more"],
+            &["ends with an extra line end"],
         ),
         (
             format!("{PASSWORD}\nx\n").into_bytes(),
@@ -249,7 +249,7 @@ fn bytes_of_a_password_that_were_not_meant_are_named() {
         (
             format!("\u{FEFF}{PASSWORD} \n\n").into_bytes(),
             27,
-            &["byte order mark", "newline more", "ends with a blank"],
+            &["byte order mark", "extra line end", "ends with a blank"],
         ),
         (b"\xFF\xFEU\0n\0\n\0".to_vec(), 2, &["is UTF-16"]),
         (b"U\0n\0".to_vec(), 27, &["zero bytes"]),
@@ -268,7 +268,7 @@ fn bytes_of_a_password_that_were_not_meant_are_named() {
     }
     // From the environment, of which nothing is removed.
     let ran = bench.run_with("open calibres.bin -o plain", &format!("{PASSWORD}\n"));
-    ran.failed(1, &["\nsheet: SHEET_PASSWORD ends with a newline more"]);
+    ran.failed(1, &["\nsheet: SHEET_PASSWORD ends with an extra line end"]);
     // A refusal that is not about the password says nothing of it.
     bench.write("book", &bench.plain());
     bench.write("password", b"Unruh \n");
@@ -286,7 +286,7 @@ fn sealing_warns_of_bytes_that_were_not_meant() {
         ("Unruh\n", None),
         ("\u{FEFF}Unruh\n", Some("byte order mark")),
         ("Unruh \n", Some("ends with a blank")),
-        ("Unruh\n\n", Some("newline more")),
+        ("Unruh\n\n", Some("extra line end")),
     ] {
         bench.write("password", password.as_bytes());
         let ran = bench.run("seal plain -o sealed --lock cryptoapi --password-file password");

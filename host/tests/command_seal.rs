@@ -262,7 +262,7 @@ fn seal_refuses_by_number() {
             "cryptoapi",
             "refused, 30: there is no zero record to put the lock in (id 0000, a body of zeros, and \
              only records before it that are never enciphered), or a FILEPASS record comes before it; \
-             a stream that is locked already is opened first; ",
+             if it is still locked, open it first; ",
         ),
         (marked, "cryptoapi", "refused, 30: "),
         (joined(&[(BOF, vec![])]), "xor", "refused, 30: "),
@@ -423,7 +423,7 @@ fn the_input_is_never_the_output() {
     let bench = bench();
     fs::hard_link(bench.folder.join("plain"), bench.folder.join("hard")).unwrap();
     symlink("plain", bench.folder.join("soft")).unwrap();
-    let same = "the very file that is read";
+    let same = "this is the input file";
     for file in ["plain", "hard", "soft", "./plain"] {
         for out in ["plain", "hard", "soft", "./plain"] {
             let line = format!("seal {file} -o {out} --lock cryptoapi");

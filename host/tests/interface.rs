@@ -607,16 +607,7 @@ fn every_detail_is_said() {
 fn the_words_say_what_to_try() {
     for (number, detail, words) in [
         (2, 0, &["UTF-8"][..]),
-        (
-            6,
-            12,
-            &[
-                "cut short",
-                "not a workbook stream",
-                "zeros at its end are not the cause",
-                "offset 12",
-            ],
-        ),
+        (6, 12, &["cut short", "not a workbook stream", "offset 12"]),
         (7, 0, &["not a workbook stream", "gsf cat"]),
         (
             8,
@@ -678,7 +669,7 @@ fn the_words_say_what_to_try() {
                 "id 0000",
                 "a body of zeros",
                 "FILEPASS",
-                "locked already is opened first",
+                "still locked, open it first",
             ],
         ),
         (

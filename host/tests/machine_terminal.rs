@@ -316,7 +316,7 @@ fn what_can_t_be_sealed_needs_no_password() {
         ),
         (
             "sheet.bin -o sheet.bin --lock cryptoapi",
-            b"sheet: sheet.bin: this is the very file",
+            b"sheet: sheet.bin: this is the input file",
         ),
     ] {
         let session = Session::start(&format!("seal {line}"));

@@ -65,7 +65,11 @@ fn refused_streams() -> Vec<Refused> {
         let other_record = Refusal::from_number(9, [EOF.into(), 0]);
         cases.push((stream, book.password, other_record));
         for password in ["", "unruh", last_changed(book.password).leak()] {
-            cases.push((book.locked.clone(), password, Refusal::from_number(27, [0, 0])));
+            cases.push((
+                book.locked.clone(),
+                password,
+                Refusal::from_number(27, [0, 0]),
+            ));
         }
     }
     let numbers: BTreeSet<u32> = cases.iter().map(|case| case.2.number()).collect();

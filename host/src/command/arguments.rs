@@ -101,8 +101,8 @@ pub fn parse(arguments: impl Iterator<Item = OsString>) -> Result<Order, Failure
         }
         _ => {
             return Err(usage(&format!(
-            "there is no command '{}': look, list, directory, forecast, open, seal and refusals \
-                 are",
+            "there is no command '{}': the commands are look, list, directory, forecast, open, \
+                 seal and refusals",
             shown(&command)
         )))
         }

@@ -34,8 +34,8 @@ OPTIONS
   --password-file FILE       where the password is, for open and seal
   --lock, --key-size, --major
                              the lock, for seal
-  -q, --quiet                for look: prints nothing, and says it by the exit
-                             status
+  -q, --quiet                for look: prints nothing on standard output; the
+                             exit status is the answer
 
 LOOK reads the first mebibyte of FILE and no more. 'no' does not always mean
 that the figures are plain: a book that was saved with a password and also as
@@ -77,9 +77,10 @@ The length of its body decides which lock fits:
   --lock xor                 XOR, 6 bytes; its password has 1 to 15 characters,
                              none beyond U+00FF
 
-Not every program opens every choice. LibreOffice opens passwords of 1 to 15
-characters alone (one beyond U+FFFF counts as two), and of cryptoapi 128 bits
-as version 3.2 or 4.2; only some programs open XOR with letters beyond ASCII.
+Not every program opens every choice. LibreOffice accepts only passwords of 1
+to 15 characters (one beyond U+FFFF counts as two) and, for cryptoapi, only 128
+bits with version 3.2 or 4.2; only some programs open XOR with letters beyond
+ASCII.
 
 The lock cryptoapi says that the document summary, which is not in this
 stream, is not enciphered. Where open said 'summary sealed yes' of a book, its
@@ -90,7 +91,7 @@ keys of up to 64 bits protect it from anyone who has many machines. A warning
 says so each time. The salt and the verifier of the other two locks are drawn
 from the system's random source (/dev/urandom), anew for each sealing.
 
-OUT gets its name when all of it is on the disk. Until then what is written is
+OUT appears only once all of it is on the disk. Until then what is written is
 beside it in a file .sheet-*.part, which is removed if anything fails or you
 press ctrl-C (only kill -9 and a power cut can leave it behind). If there is a
 file OUT already, it is replaced then and not before, and keeps its
@@ -115,7 +116,8 @@ PRINTED, in columns separated by tabs:
           output bytes: as many as FILE has; records: how many; enciphered body
           bytes: of all records, without what is never enciphered; block keys:
           how many are derived, 0 for XOR, or else one for the check of the
-          password and one for each 1,024 bytes of FILE that are begun
+          password and one for each block of 1,024 bytes of FILE, counting a
+          partial last one
   open    records: how many; lock; key size in bits; summary sealed: whether
           the document summary, which is not in this stream, is enciphered too;
           and output bytes, enciphered body bytes and block keys, as forecast
@@ -131,7 +133,8 @@ EXIT STATUS
   2       anything else: the arguments, the input, the output, what was typed
           as a password, or no random source; standard error says which, and
           what to try
-  3       for look --quiet, unknown, or no though a lock was found later
+  3       for look --quiet, unknown, or look says no but a FILEPASS record
+          follows
 
 EXAMPLES
 

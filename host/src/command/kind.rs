@@ -20,6 +20,8 @@ const GSF: &str = "gsf: ";
 pub enum Kind {
     Compound,
     Empty,
+    /// A worksheet of Excel 2, 3 or 4, which has no compound file around it.
+    Worksheet,
     /// What gsf printed in place of a stream.
     Gsf(String),
     Zip,
@@ -46,6 +48,9 @@ impl Kind {
         if file.starts_with(b"%PDF-") {
             return Some(Kind::Pdf);
         }
+        if let [0x09, 0x00 | 0x02 | 0x04, 4..=16, 0x00, ..] = file {
+            return Some(Kind::Worksheet);
+        }
         let text = text(&file[..file.len().min(SEEN)])?;
         let first = text.trim_start_matches('\u{FEFF}').trim_start();
         Some(if text.starts_with(GSF) {
@@ -65,6 +70,9 @@ impl Kind {
             Kind::Compound => compound(file.unwrap_or(OsStr::new("book.xls"))),
             Kind::Empty => "this file is empty: if gsf should have written it, see what gsf said, and \
                             take the stream out of the .xls file again"
+                .into(),
+            Kind::Worksheet => "this is a worksheet of Excel 2, 3 or 4: open it in a spreadsheet \
+                                program and save it as an Excel 97-2003 workbook"
                 .into(),
             Kind::Gsf(said) => format!(
                 "this is an error message of gsf, and not a workbook stream: '{said}'; 'gsf list' \
@@ -98,8 +106,8 @@ fn compound(file: &OsStr) -> String {
          gsf list {name}\n\
          If that lists Workbook, take it out, and use {stream}:\n  \
          gsf cat {name} Workbook > {stream}\n\
-         If it lists EncryptedPackage, this is a protected .xlsx, .docx or .pptx: they have another \
-         protection, which sheet can't open. Nor can it open Book (Excel 5 or 95), WordDocument (a \
+         If it lists EncryptedPackage, this is a protected .xlsx, .docx or .pptx: these use a different \
+         kind of protection, which sheet can't open. Nor can it open Book (Excel 5 or 95), WordDocument (a \
          .doc) or PowerPoint Document (a .ppt)."
     )
 }
@@ -157,6 +165,9 @@ mod tests {
             (b"PK\x03\x04\x14\0\0\0", Kind::Zip),
             (b"PK\x05\x06\0\0", Kind::Zip),
             (b"%PDF-1.4\n%\xE2\xE3\xCF\xD3", Kind::Pdf),
+            (&[0x09, 0x00, 4, 0, 2, 0, 0x10, 0], Kind::Worksheet),
+            (&[0x09, 0x02, 6, 0, 0, 0, 0x10, 0], Kind::Worksheet),
+            (&[0x09, 0x04, 6, 0, 0, 0, 0x10, 0], Kind::Worksheet),
             (b"{\\rtf1\\ansi", Kind::Rtf),
             (b"<html><table>", Kind::Markup),
             ("\u{FEFF}\n<?xml version".as_bytes(), Kind::Markup),
@@ -175,10 +186,11 @@ mod tests {
     #[test]
     fn nothing_else_is_told() {
         for file in [
-            // A workbook stream, of Excel 97 and of Excel 4.
+            // A workbook stream, whole and cut off.
             &[0x09, 0x08, 0x10, 0, 0, 6, 5, 0][..],
-            &[0x09, 0x04, 6, 0, 0, 0, 0x10, 0, 0, 0],
             &[0x09, 0x08],
+            &[0x09, 0x04],
+            &[0x09, 0x04, 6, 1],
             &[0],
             &[0xFF; 5000],
             // No text: a character that is wrong, or cut where nothing was left out.

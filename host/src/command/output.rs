@@ -23,10 +23,10 @@ pub const STANDARD: &str = "standard output";
 type Kept = [(Option<Identity>, &'static str); 2];
 
 const SAME_AS_INPUT: &str =
-    "this is the very file that is read, which stays as it is: name another file to write";
+    "this is the input file, which is never changed: name another file to write";
 
 const SAME_AS_PASSWORD: &str =
-    "this is the password file, which stays as it is: name another file to write";
+    "this is the password file, which is never changed: name another file to write";
 
 /// Where the stream goes.
 pub enum Output {

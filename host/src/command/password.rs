@@ -44,8 +44,8 @@ fn oddities(password: &[u8]) -> Vec<&'static str> {
     let mut found = Vec::new();
     if password.starts_with(&[0xEF, 0xBB, 0xBF]) {
         found.push(
-            "begins with a byte order mark (EF BB BF), which is taken for a part of the password: \
-             save it as UTF-8 without one",
+            "begins with a byte order mark (EF BB BF), which counts as part of the password: save it \
+             as UTF-8 without one",
         );
     }
     let lines = |byte: &u8| matches!(byte, b'\n' | b'\r');
@@ -54,26 +54,27 @@ fn oddities(password: &[u8]) -> Vec<&'static str> {
         .rposition(|byte| !lines(byte))
         .map_or(0, |at| at + 1);
     if end < password.len() {
-        found.push(
-            "ends with a newline more than the one that is removed from a file, and the rest is \
-             taken for a part of the password",
-        );
+        found.push("ends with an extra line end (LF or CR), which counts as part of the password");
     }
-    let (inside, blank) = (&password[..end], [b' ', b'\t']);
+    let inside = &password[..end];
     if inside.iter().any(lines) {
-        found.push("has more than one line, and all of them are taken for the password");
+        found.push("has more than one line, and all of them count as the password");
     }
-    if inside.last().is_some_and(|byte| blank.contains(byte)) || inside.ends_with(NO_BREAK) {
-        found.push("ends with a blank, which is taken for a part of the password");
+    let text = String::from_utf8_lossy(inside);
+    if text.chars().next_back().is_some_and(is_blank) {
+        found.push("ends with a blank, which counts as part of the password");
     }
-    if inside.first().is_some_and(|byte| blank.contains(byte)) || inside.starts_with(NO_BREAK) {
-        found.push("begins with a blank, which is taken for a part of the password");
+    if text.chars().next().is_some_and(is_blank) {
+        found.push("begins with a blank, which counts as part of the password");
     }
     found
 }
 
-/// A no-break space in UTF-8.
-const NO_BREAK: &[u8] = "\u{A0}".as_bytes();
+/// Whether nothing is seen of a character: blanks of all kinds, and characters without a width. A byte
+/// order mark at the start has its own words.
+fn is_blank(character: char) -> bool {
+    character.is_whitespace() || matches!(character, '\u{200B}'..='\u{200D}' | '\u{2060}')
+}
 
 /// Gets the password of a stream. Before it is asked for on the terminal, `worth_asking` may say
 /// that it is of no use.
@@ -187,17 +188,20 @@ mod tests {
             (b"\xFF\xFEU\0n\0", &["FF FE"]),
             (b"\xFE\xFF\0U\0n", &["FF FE"]),
             (b"U\0n\0", &["zero bytes"]),
-            (b"Unruh\n", &["newline more"]),
-            (b"Unruh\r\n", &["newline more"]),
-            (b"\n", &["newline more"]),
+            (b"Unruh\n", &["extra line end"]),
+            (b"Unruh\r\n", &["extra line end"]),
+            (b"\n", &["extra line end"]),
             (b"Unruh\nSpirale", &["more than one line"]),
             (b"Unruh ", &["ends with a blank"]),
             (b"Unruh\t", &["ends with a blank"]),
             ("Unruh\u{A0}".as_bytes(), &["ends with a blank"]),
+            ("Unruh\u{3000}".as_bytes(), &["ends with a blank"]),
+            ("\u{200B}Unruh".as_bytes(), &["begins with a blank"]),
+            (b"Unruh\r", &["extra line end"]),
             (b" Unruh", &["begins with a blank"]),
             (
                 b"\xEF\xBB\xBFUnruh \r\n",
-                &["byte order mark", "newline more", "ends with a blank"],
+                &["byte order mark", "extra line end", "ends with a blank"],
             ),
         ] {
             let found = oddities(password);
