@@ -200,8 +200,8 @@ enum sheet_lock {
  * 0x002F, 0x00E1, 0x0138, 0x0194, 0x0195 and 0x0196 that comes before FILEPASS. A book that was saved with a password and also
  * as "read-only recommended" or with a password to modify has a WriteProtect record (0x0086) there: it is locked, its
  * figures are enciphered, and the result is SHEET_LOOK_NO. Before figures are read from a stream as plain ones, ask
- * sheet_forecast: it returns SHEET_REFUSED_NOT_ENCRYPTED if there is no FILEPASS record anywhere in the stream, and
- * SHEET_REFUSED_FILEPASS_OUT_OF_ORDER for such a book.
+ * sheet_forecast: SHEET_REFUSED_NOT_ENCRYPTED means that the stream is in order and has no FILEPASS record anywhere, and
+ * SHEET_REFUSED_FILEPASS_OUT_OF_ORDER that it is such a book.
  *
  * All eight facts are written, whatever is returned. On SHEET_LOOK_YES: SHEET_LOOK_XOR is 1 if the lock is XOR;
  * SHEET_LOOK_HAS_VERSION is 1 if the lock's version is there, and then SHEET_LOOK_MAJOR and SHEET_LOOK_MINOR are its two

@@ -36,9 +36,10 @@ pub struct Facts {
 /// **[`Verdict::No`] does not mean that the stream is plain.** A book that was saved with a password
 /// and also as "read-only recommended" or with a password to modify has a WriteProtect record (0086)
 /// before FILEPASS. It is locked, its figures are enciphered, and the verdict is `No`. Before figures
-/// are read from a stream as plain ones, ask [`forecast`](crate::forecast()): it gives
-/// [`NotEncrypted`](crate::Refusal::NotEncrypted) if there is no FILEPASS record anywhere in the
-/// stream, and [`FilepassOutOfOrder`](crate::Refusal::FilepassOutOfOrder) for such a book.
+/// are read from a stream as plain ones, ask [`forecast`](crate::forecast()):
+/// [`NotEncrypted`](crate::Refusal::NotEncrypted) means that the stream is in order and has no FILEPASS
+/// record anywhere, and [`FilepassOutOfOrder`](crate::Refusal::FilepassOutOfOrder) that it is such a
+/// book.
 ///
 /// ```
 /// use sheet::{forecast, look, Lock, Refusal, Verdict};

@@ -42,8 +42,8 @@ that the figures are plain: a book that was saved with a password and also as
 'read-only recommended' or with a password to modify has a WriteProtect record
 (0086) before its lock. It is locked, but look says no. Where the lock is in
 the first mebibyte, a warning on standard error says so, and look --quiet ends
-with 3. forecast reads all of FILE: it is refused with 8 if there is no lock
-anywhere, and with 9 for such a book.
+with 3. forecast reads all of FILE: its refusal 8 means that there is no lock
+anywhere, and 9 that it is such a book.
 
 THE PASSWORD comes from the first of these that is there:
 
