@@ -4,7 +4,7 @@
 use mathlib.Core.Path.{_≡_, refl, sym, ap, _∙_}
 use mathlib.Core.Bool.{Bool, true, false, not, _&&_, _||_}
 use mathlib.Core.List.{List}
-use Prim.Native.Nat.{ℕ, zero, suc, _+_}
+use Prim.Native.Nat.{ℕ, zero, suc, _+_, _≤_}
 use native.Mathlib.Omega.{arith}
 use lib.Dec.{eqb, leb}
 use lib.ListN.{length, take, drop}
@@ -18,13 +18,15 @@ use Rattle.binary_office.specs.declared.Step.the-variants as step
 use Rattle.binary_office.specs.declared.Facts.{Facts}
 use Rattle.binary_office.specs.declared.Verdict.{Verdict}
 use Rattle.binary_office.specs.declared.Verdict.the-variants.{Yes, No, Unknown}
+use Rattle.binary_office.specs.declared.Finding.{Finding}
+use Rattle.binary_office.specs.declared.Finding.the-variants.{Filepass, Other, Unreadable}
 use Rattle.binary_office.specs.Fields.{le16At}
 use Rattle.binary_office.specs.Walk.{stepAt, neverEncrypted}
-use Rattle.binary_office.specs.Look.{factsOf, scanByLength, scanById, scanFrom, scanAt, fromBof, look}
+use Rattle.binary_office.specs.Look.{factsOf, scanByLength, scanById, scanFrom, scanAt, fromBof, found, verdictOf, look}
 use Rattle.binary_office.specs.KeySizes.{comesFrom, LooksAt, OneBody}
-use Rattle.binary_office.proofs.Headers.{step-record}
+use Rattle.binary_office.proofs.Headers.{le16-within, step-record}
 use Rattle.binary_office.proofs.Walks.{record-there}
-use Rattle.binary_office.proofs.Locks.{scan-found, scan-on, look-scan}
+use Rattle.binary_office.proofs.Locks.{scan-found, scan-on, found-scan, look-found}
 
 -- 0 is not 1
 pub impossible : {X : Type 0} → _≡_ {A = ℕ} 0 1 → X
@@ -121,100 +123,143 @@ module _ (book : List ℕ) where
           again (from + 4 + o .len) at (o .rest)
           ∙ scan-on book from (o .id) (o .len) (there .id-there) (there .len-there) (eqb-false (o .id) 0x002F (o .other)) (o .seven) (there .within)
 
+-- the body of a FILEPASS that there is a way to is found
+pub finds : (book : List ℕ) (at len : ℕ) → le16At book 0 ≡ two.Value 0x0809 → comesFrom (suc (length book)) book 0 at ≡ true → le16At book at ≡ two.Value 0x002F
+    → le16At book (at + 2) ≡ two.Value len
+    → Filepass (at + 4) len ≡ found book
+finds book at len b e i l =
+    found-scan book 0x0809 (sym b) (Filepass (at + 4) len) refl (scan-found book at 0x002F len (sym i) (sym l) refl ∙ same-scan book (suc (length book)) 0 at e)
+
 says-yes : (s : List ℕ) (at len : ℕ)
     → let book = take 1048576 s in
     le16At book 0 ≡ two.Value 0x0809
     → comesFrom (suc (length book)) book 0 at ≡ true → le16At book at ≡ two.Value 0x002F → le16At book (at + 2) ≡ two.Value len
     → look s ≡ Yes (factsOf (take len (drop (at + 4) book)))
-says-yes s at len b e i l =
-    let book = take 1048576 s in
-    sym (look-scan s 0x0809 (sym b) (Yes (factsOf (take len (drop (at + 4) book)))) refl
-    (scan-found book at 0x002F len (sym i) (sym l) refl ∙ same-scan book (suc (length book)) 0 at e))
+says-yes s at len b e i l = sym (look-found s _ (Filepass (at + 4) len) (finds (take 1048576 s) at len b e i l) refl)
 
--- the header that a scan stops at with a yes
-record Stops (n : ℕ) (book : List ℕ) (from : ℕ) (f : Facts) : Type 0 where
+-- the header that a scan stops at with a FILEPASS
+record Stops (n : ℕ) (book : List ℕ) (from start len : ℕ) : Type 0 where
   at : ℕ
-  len : ℕ
   reached : comesFrom n book from at ≡ true
   id : le16At book at ≡ two.Value 0x002F
   stated : le16At book (at + 2) ≡ two.Value len
-  told : f ≡ factsOf (take len (drop (at + 4) book))
+  body : start ≡ at + 4
 
-module _ (f : Facts) where
-  -- a yes by a test
-  by-test : {X : Type 0} (t : Bool) (x y : Verdict) → pick t x y ≡ Yes f → (t ≡ true → x ≡ Yes f → X) → (t ≡ false → y ≡ Yes f → X) → X
+module _ (start len : ℕ) where
+  abbrev it : Finding
+  it = Filepass start len
+
+  -- a FILEPASS by a test
+  by-test : {X : Type 0} (t : Bool) (x y : Finding) → pick t x y ≡ it → (t ≡ true → x ≡ it → X) → (t ≡ false → y ≡ it → X) → X
   unfolding pick
   by-test true x y e g h = g refl e
   by-test false x y e g h = h refl e
 
-  never : {X : Type 0} (v : Verdict) → v ≡ Yes f → (v ≡ Yes f → _≡_ {A = ℕ} 0 1) → X
+  never : {X : Type 0} (v : Finding) → v ≡ it → (v ≡ it → _≡_ {A = ℕ} 0 1) → X
   never v e g = impossible (g e)
 
-  stops : (n : ℕ) (book : List ℕ) (at : ℕ) → scanFrom n book at ≡ Yes f → Stops n book at f
+  stops : (n : ℕ) (book : List ℕ) (at : ℕ) → scanFrom n book at ≡ it → Stops n book at start len
   unfolding scanFrom
-  stops zero book at e = never Unknown e (λ k. cc)
+  stops zero book at e = never Unreadable e (λ k. cc)
   stops (suc n) book at e = by-id (le16At book at) refl e (stops n book)
     where
-      found : (id len : ℕ) → le16At book at ≡ two.Value id → le16At book (at + 2) ≡ two.Value len → eqb id 0x002F ≡ true
-          → Yes (factsOf (take len (drop (at + 4) book))) ≡ Yes f → Stops (suc n) book at f
-      found id len i l t k =
-          let z : f ≡ factsOf (take len (drop (at + 4) book)) = cc in
-          record { at = at; len = len; reached = comes-here n book at at refl; id = i ∙ ap two.Value (eqb-true id 0x002F t); stated = l; told = z }
+      here : (id own : ℕ) → le16At book at ≡ two.Value id → le16At book (at + 2) ≡ two.Value own → eqb id 0x002F ≡ true
+          → Filepass (at + 4) own ≡ it → Stops (suc n) book at start len
+      here id own i l t k =
+          let p : start ≡ at + 4 = cc in
+          let q : own ≡ len = cc in
+          record { at = at; reached = comes-here n book at at refl; id = i ∙ ap two.Value (eqb-true id 0x002F t); stated = l ∙ ap two.Value q; body = p }
 
-      on : (id len : ℕ) → le16At book at ≡ two.Value id → le16At book (at + 2) ≡ two.Value len → eqb id 0x002F ≡ false → not (neverEncrypted id) ≡ false
-          → leb (at + 4 + len) (length book) ≡ true
-          → Stops n book (at + 4 + len) f → Stops (suc n) book at f
-      on id len i l other seven fits h =
-          let m = leb-true (at + 4 + len) (length book) fits in
-          let stands = sym (step-record book at id len (sym i) (sym l) m) in
+      on : (id own : ℕ) → le16At book at ≡ two.Value id → le16At book (at + 2) ≡ two.Value own → eqb id 0x002F ≡ false → not (neverEncrypted id) ≡ false
+          → leb (at + 4 + own) (length book) ≡ true
+          → Stops n book (at + 4 + own) start len → Stops (suc n) book at start len
+      on id own i l other seven fits h =
+          let m = leb-true (at + 4 + own) (length book) fits in
+          let stands = sym (step-record book at id own (sym i) (sym l) m) in
           record {
             at = h .at;
-            len = h .len;
-            reached = comes-over n book at (h .at) id len stands other (not-false (neverEncrypted id) seven) (h .reached);
+            reached = comes-over n book at (h .at) id own stands other (not-false (neverEncrypted id) seven) (h .reached);
             id = h .id;
             stated = h .stated;
-            told = h .told;
+            body = h .body;
           }
 
-      by-len : (id : ℕ) → le16At book at ≡ two.Value id → (w : Field16) → le16At book (at + 2) ≡ w → scanByLength book at id (scanFrom n book) w ≡ Yes f
-          → ((m : ℕ) → scanFrom n book m ≡ Yes f → Stops n book m f) → Stops (suc n) book at f
-      by-len id i two.Short l k again = never Unknown k (λ z. cc)
-      by-len id i (two.Value len) l k again =
-          by-test (eqb id 0x002F) _ _ k (found id len i l)
+      by-len : (id : ℕ) → le16At book at ≡ two.Value id → (w : Field16) → le16At book (at + 2) ≡ w → scanByLength book at id (scanFrom n book) w ≡ it
+          → ((m : ℕ) → scanFrom n book m ≡ it → Stops n book m start len) → Stops (suc n) book at start len
+      by-len id i two.Short l k again = never Unreadable k (λ z. cc)
+      by-len id i (two.Value own) l k again =
+          by-test (eqb id 0x002F) _ _ k (here id own i l)
           (λ other past-id.
-          by-test (not (neverEncrypted id)) _ _ past-id (λ t z. never No z (λ y. cc))
+          by-test (not (neverEncrypted id)) _ _ past-id (λ t z. never Other z (λ y. cc))
           (λ seven past-other.
-          by-test (leb (at + 4 + len) (length book)) _ _ past-other
-          (λ fits z. on id len i l other seven fits (again (at + 4 + len) z))
-          (λ t z. never Unknown z (λ y. cc))))
+          by-test (leb (at + 4 + own) (length book)) _ _ past-other
+          (λ fits z. on id own i l other seven fits (again (at + 4 + own) z))
+          (λ t z. never Unreadable z (λ y. cc))))
 
-      by-id : (w : Field16) → le16At book at ≡ w → scanById book at (scanFrom n book) w ≡ Yes f
-          → ((m : ℕ) → scanFrom n book m ≡ Yes f → Stops n book m f) → Stops (suc n) book at f
-      by-id two.Short i k again = never Unknown k (λ z. cc)
+      by-id : (w : Field16) → le16At book at ≡ w → scanById book at (scanFrom n book) w ≡ it
+          → ((m : ℕ) → scanFrom n book m ≡ it → Stops n book m start len) → Stops (suc n) book at start len
+      by-id two.Short i k again = never Unreadable k (λ z. cc)
       by-id (two.Value id) i k again = by-len id i (le16At book (at + 2)) refl k again
 
-  module _ (s : List ℕ) (e : look s ≡ Yes f) where
-    abbrev book : List ℕ
-    book = take 1048576 s
+  module _ (book : List ℕ) (e : found book ≡ it) where
+    scanned : (w : Field16) → fromBof book w ≡ it → (w ≡ two.Value 0x0809) × (scanAt book 0 ≡ it)
+    scanned two.Short k = never Unreadable k (λ z. cc)
+    scanned (two.Value id) k = by-test (eqb id 0x0809) _ _ k (λ t z. (ap two.Value (eqb-true id 0x0809 t), z)) (λ t z. never Unreadable z (λ y. cc))
 
-    scanned : (w : Field16) → fromBof book w ≡ Yes f → (w ≡ two.Value 0x0809) × (scanAt book 0 ≡ Yes f)
-    scanned two.Short k = never Unknown k (λ z. cc)
-    scanned (two.Value id) k = by-test (eqb id 0x0809) _ _ k (λ t z. (ap two.Value (eqb-true id 0x0809 t), z)) (λ t z. never Unknown z (λ y. cc))
-
-    starts : le16At book 0 ≡ two.Value 0x0809
-    unfolding look
+    pub starts : le16At book 0 ≡ two.Value 0x0809
+    unfolding found
     starts = scanned (le16At book 0) e .0
 
-    stopped : Stops (suc (length book)) book 0 f
-    unfolding look scanAt
+    stopped : Stops (suc (length book)) book 0 start len
+    unfolding found scanAt
     stopped = stops (suc (length book)) book 0 (scanned (le16At book 0) e .1)
 
-    has-body : (body : List ℕ) × LooksAt s body
-    has-body =
-        let h = stopped in (
-          take (h .len) (drop (h .at + 4) book),
-          record { at = h .at; len = h .len; reached = h .reached; id = h .id; stated = h .stated; bytes = refl; yes = e ∙ ap Yes (h .told) },
-        )
+    -- the body starts within the book
+    pub starts-within : start ≤ length book
+    starts-within =
+        let h = stopped in
+        let there = le16-within book (h .at + 2) len (sym (h .stated)) in
+        let place = h .body in
+        omega arith
+
+-- the finding of a look that says yes
+pub record Finds (s : List ℕ) (f : Facts) : Type 0 where
+  pub start : ℕ
+  pub len : ℕ
+  pub found : found (take 1048576 s) ≡ Filepass start len
+  pub told : f ≡ factsOf (take len (drop start (take 1048576 s)))
+
+pub yes-finds : (s : List ℕ) (f : Facts) → look s ≡ Yes f → Finds s f
+unfolding look
+yes-finds s f e = go (found (take 1048576 s)) refl e
+  where
+    go : (w : Finding) → found (take 1048576 s) ≡ w → verdictOf (take 1048576 s) w ≡ Yes f → Finds s f
+    go Unreadable g h = let z : Unknown ≡ Yes f = h in impossible (cc)
+    go Other g h = let z : No ≡ Yes f = h in impossible (cc)
+    go (Filepass start len) g h =
+        let z : Yes (factsOf (take len (drop start (take 1048576 s)))) ≡ Yes f = h in
+        let told : f ≡ factsOf (take len (drop start (take 1048576 s))) = cc in
+        record { start = start; len = len; found = g; told = told }
+
+has-body : (s : List ℕ) (f : Facts) → look s ≡ Yes f → (body : List ℕ) × LooksAt s body
+has-body s f e =
+    let book = take 1048576 s in
+    let w = yes-finds s f e in
+    let h = stopped (w .start) (w .len) book (w .found) in (
+      take (w .len) (drop (h .at + 4) book),
+      record {
+        at = h .at;
+        len = w .len;
+        reached = h .reached;
+        id = h .id;
+        stated = h .stated;
+        bytes = refl;
+        yes = e ∙ ap Yes (w .told ∙ ap (λ (n : ℕ). factsOf (take (w .len) (drop n book))) (h .body));
+      },
+    )
+
+pub yes-starts : (s : List ℕ) (f : Facts) → look s ≡ Yes f → le16At (take 1048576 s) 0 ≡ two.Value 0x0809
+yes-starts s f e = let w = yes-finds s f e in starts (w .start) (w .len) (take 1048576 s) (w .found)
 
 same-body : (s b c : List ℕ) → LooksAt s b → LooksAt s c → b ≡ c
 same-body s b c p q =
@@ -225,4 +270,4 @@ same-body s b c p q =
     p .bytes ∙ bodies ∙ sym (q .bytes)
 
 pub one-body : OneBody
-one-body = record { says-yes = says-yes; starts = λ s f e. starts f s e; looked = λ s f e. has-body f s e; same = same-body }
+one-body = record { says-yes = says-yes; starts = yes-starts; looked = has-body; same = same-body }

@@ -1,4 +1,4 @@
--- The key size that a look tells, and Same lock of two. What a look tells of a body is opened into the body's facts: with a version that has a key size it is that of
+-- The key size that a look tells, and whether the facts of two agree. What a look tells of a body is opened into the body's facts: with a version that has a key size it is that of
 -- the four bytes, and else there is none.
 -- Assumes nothing.
 use mathlib.Core.Path.{_≡_, refl, sym, ap, _∙_}
@@ -19,10 +19,12 @@ use Rattle.binary_office.specs.declared.KeySize.{KeySize}
 use Rattle.binary_office.specs.declared.KeySize.the-variants.{Bits, NoSize}
 use Rattle.binary_office.specs.declared.Facts.{Facts}
 use Rattle.binary_office.specs.Fields.{le16At, le32At}
-use Rattle.binary_office.specs.Look.{pairOf, versionOf, bitsOf, bitsIn, sizeOf, byType, factsOf, look, sameSize, sameLock}
+use Rattle.binary_office.specs.Look.{pairOf, versionOf, bitsOf, bitsIn, sizeOf, byType, factsOf, look}
+use Rattle.binary_office.specs.SameLock.{sameSize, factsAgree}
 use Rattle.binary_office.specs.KeySizes.{reported, LooksAt, Versioned, Told, TwoSizes, KeySizes}
 use Rattle.binary_office.proofs.Bodies.{one-body}
-use Rattle.binary_office.proofs.Locks.{bits-zero, bits-stated, bits-above, facts-xor, facts-other, same-lock-sym}
+use Rattle.binary_office.proofs.Locks.{bits-zero, bits-stated, bits-above, facts-xor, facts-other}
+use Rattle.binary_office.proofs.SameLock.{agree-sym}
 
 -- the facts of a body with a version that has a key size
 module _ (body : List ℕ) (major : ℕ) (v : Versioned body major) where
@@ -129,17 +131,17 @@ module _ (s b : List ℕ) (l : LooksAt s b) where
         other-minor = λ minor e f. of-body NoSize (other-minor b minor e f);
       }
 
--- two looks at bodies of one version are the same lock where their key sizes are the same
+-- the facts of two looks at bodies of one version agree where their key sizes are the same
 module _ (s t b c : List ℕ) (p : LooksAt s b) (q : LooksAt t c) where
   module _ (major : ℕ) (v : Versioned b major) (w : Versioned c major) (zero-there : le32At b 30 ≡ four.Value 0) where
-    by-sizes : sameLock s t ≡ sameSize (bitsIn (le32At b 30)) (bitsIn (le32At c 30))
-    unfolding sameLock
+    by-sizes : factsAgree s t ≡ sameSize (bitsIn (le32At b 30)) (bitsIn (le32At c 30))
+    unfolding factsAgree
     by-sizes = rw (p .yes, q .yes, facts-are b major v, facts-are c major w, eq-eqb major major refl)
 
     sized : bitsIn (le32At b 30) ≡ Bits 40
     sized = ap bitsIn zero-there ∙ sym (bits-zero 0 refl)
 
-    with-size : (k : KeySize) → bitsIn (le32At c 30) ≡ k → sameLock s t ≡ sameSize (Bits 40) k
+    with-size : (k : KeySize) → bitsIn (le32At c 30) ≡ k → factsAgree s t ≡ sameSize (Bits 40) k
     with-size k e = by-sizes ∙ rw (sized, e)
 
   two-of : TwoSizes s t b c
@@ -151,4 +153,4 @@ module _ (s t b c : List ℕ) (p : LooksAt s b) (q : LooksAt t c) where
       }
 
 pub key-sizes : KeySizes
-key-sizes = record { one-body = one-body; told = told-of; two-sizes = two-of; symmetric = same-lock-sym }
+key-sizes = record { one-body = one-body; told = told-of; two-sizes = two-of; symmetric = agree-sym }

@@ -6,4 +6,5 @@ pub mod KeySizes
 pub mod Locks
 pub mod Remainder
 pub mod Renamed
+pub mod SameLock
 pub mod Walks

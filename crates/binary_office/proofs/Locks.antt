@@ -1,7 +1,7 @@
--- The lock's facts and the scan, by the tests on the way; and Same lock: it is symmetric, and true of a stream and itself exactly where its look says yes.
+-- The lock's facts, the scan and what a look finds, by the tests on the way.
 -- Assumes nothing.
 use mathlib.Core.Path.{_≡_, refl, sym, ap, _∙_}
-use mathlib.Core.Bool.{Bool, true, false, not, _&&_, Bool·beq}
+use mathlib.Core.Bool.{Bool, true, false, not, _&&_}
 use mathlib.Core.List.{List}
 use Prim.Native.Nat.{ℕ, zero, suc, _+_, _-_, _≤_, _<_, min}
 use native.Mathlib.Nat.{le-refl, sub-zero, zero-add}
@@ -21,9 +21,10 @@ use Rattle.binary_office.specs.declared.Facts.{Facts}
 use Rattle.binary_office.specs.Fields.{le16At, le32At}
 use Rattle.binary_office.specs.Walk.{neverEncrypted}
 use Rattle.binary_office.specs.declared.Field16.{Field16}
+use Rattle.binary_office.specs.declared.Finding.{Finding}
+use Rattle.binary_office.specs.declared.Finding.the-variants.{Filepass, Other, Unreadable}
 use Rattle.binary_office.specs.declared.Verdict.{Verdict}
-use Rattle.binary_office.specs.declared.Verdict.the-variants.{Yes, No, Unknown}
-use Rattle.binary_office.specs.Look.{versionOf, bitsOf, bitsIn, sizeOf, factsOf, judged, scanByLength, scanById, scanFrom, scanAt, look, sameVersion, sameSize, sameFacts, sameVerdict, sameLock}
+use Rattle.binary_office.specs.Look.{versionOf, bitsOf, bitsIn, sizeOf, factsOf, judged, scanByLength, scanById, scanFrom, scanAt, found, capped, verdictOf, look}
 
 -- the key size that a header states: 0 is 40, 1 to 4096 is itself, above there is none
 module _ (k : ℕ) where
@@ -83,7 +84,7 @@ module _ (s : List ℕ) where
       by-len id two.Short again = refl
       by-len id (two.Value len) again =
           either (at + 4 + len) (length s)
-          (λ m. ap (λ (v : Verdict). judged s at id len (λ (n : ℕ). v)) (again (at + 4 + len) m (omega arith) (omega arith)))
+          (λ m. ap (λ (v : Finding). judged s at id len (λ (n : ℕ). v)) (again (at + 4 + len) m (omega arith) (omega arith)))
           (λ m. rw (lt-leb (at + 4 + len) (length s) m, pick))
 
       by-id : (w : Field16) → ((n : ℕ) → n ≤ length s → length s < f + n → length s < g + n → scanFrom f s n ≡ scanFrom g s n)
@@ -92,28 +93,28 @@ module _ (s : List ℕ) where
       by-id (two.Value id) again = by-len id (le16At s (at + 2)) again
 
   module _ (at : ℕ) where
-    pub scan-no-id : two.Short ≡ le16At s at → Unknown ≡ scanAt s at
+    pub scan-no-id : two.Short ≡ le16At s at → Unreadable ≡ scanAt s at
     unfolding scanAt scanFrom
     scan-no-id e = rw (← e)
 
-    pub scan-no-len : (id : ℕ) → two.Value id ≡ le16At s at → two.Short ≡ le16At s (at + 2) → Unknown ≡ scanAt s at
+    pub scan-no-len : (id : ℕ) → two.Value id ≡ le16At s at → two.Short ≡ le16At s (at + 2) → Unreadable ≡ scanAt s at
     unfolding scanAt scanFrom
     scan-no-len id e g = rw (← e, ← g)
 
     module _ (id len : ℕ) (e : two.Value id ≡ le16At s at) (g : two.Value len ≡ le16At s (at + 2)) where
-      as-judged : (v : Verdict) → v ≡ judged s at id len (scanFrom (length s) s) → v ≡ scanAt s at
+      as-judged : (v : Finding) → v ≡ judged s at id len (scanFrom (length s) s) → v ≡ scanAt s at
       unfolding scanAt scanFrom
       as-judged v h = rw (← e, ← g) h
 
-      pub scan-found : id ≡ 0x002F → Yes (factsOf (take len (drop (at + 4) s))) ≡ scanAt s at
+      pub scan-found : id ≡ 0x002F → Filepass (at + 4) len ≡ scanAt s at
       scan-found h = as-judged _ (stop _ (eq-eqb id 0x002F h))
 
       module _ (other : id ≡ 0x002F → ⊥) where
-        pub scan-absent : neverEncrypted id ≡ false → No ≡ scanAt s at
-        scan-absent h = as-judged No (skip _ (ne-eqb id 0x002F other) (stop _ (ap not h)))
+        pub scan-absent : neverEncrypted id ≡ false → Other ≡ scanAt s at
+        scan-absent h = as-judged Other (skip _ (ne-eqb id 0x002F other) (stop _ (ap not h)))
 
-        pub scan-past : neverEncrypted id ≡ true → length s < at + 4 + len → Unknown ≡ scanAt s at
-        scan-past h k = as-judged Unknown (skip _ (ne-eqb id 0x002F other) (skip _ (ap not h) (skip _ (lt-leb (at + 4 + len) (length s) k) refl)))
+        pub scan-past : neverEncrypted id ≡ true → length s < at + 4 + len → Unreadable ≡ scanAt s at
+        scan-past h k = as-judged Unreadable (skip _ (ne-eqb id 0x002F other) (skip _ (ap not h) (skip _ (lt-leb (at + 4 + len) (length s) k) refl)))
 
         pub scan-on : neverEncrypted id ≡ true → at + 4 + len ≤ length s → scanAt s (at + 4 + len) ≡ scanAt s at
         unfolding scanAt
@@ -132,6 +133,20 @@ body-cut l start len n e h g =
 
 pub book-cut : (l : List ℕ) (cap n : ℕ) → n ≡ min (length l) cap → take (n - 0) l ≡ take cap l
 book-cut l cap n h = body-cut l 0 cap n n (h ∙ ap (λ (k : ℕ). min k cap) (sym (sub-zero (length l)))) (sym (zero-add n))
+
+-- an offset within such a book
+pub within-cut : (l : List ℕ) (n start : ℕ) → start ≤ length (take (n - 0) l) → start ≤ n
+within-cut l n start h = let size = length-take (n - 0) l in omega arith
+
+-- the rest of such a book, from an offset on
+pub rest-cut : (l : List ℕ) (cap n start : ℕ) → n ≡ min (length l) cap → take (n - start) (drop start (take (n - 0) l)) ≡ drop start (take cap l)
+rest-cut l cap n start h =
+    let book = take cap l in
+    let short : length (drop start book) ≤ n - start =
+    let a = length-drop start book in
+    let b = length-take cap l in
+    omega arith in
+    ap (λ (b : List ℕ). take (n - start) (drop start b)) (book-cut l cap n h) ∙ take-all (n - start) (drop start book) short
 
 -- the part of a book that is cut itself, as the first bytes of the part of the whole
 pub part-cut : (l : List ℕ) (most start len : ℕ) → take len (drop start (take most l)) ≡ take (most - start) (take len (drop start l))
@@ -163,85 +178,22 @@ part-cut l most start len = ext-getD 0 (take len (drop start (take most l))) (ta
         ∙ sym (getD-take len (drop start l) i 0 (omega arith))
         ∙ sym (getD-take (most - start) (take len (drop start l)) i 0 (omega arith))
 
-module _ (s : List ℕ) where
-  pub look-short : two.Short ≡ le16At (take 1048576 s) 0 → Unknown ≡ look s
-  unfolding look
-  look-short e = rw (← e)
+-- what a book that starts with BOF has
+module _ (book : List ℕ) where
+  pub found-short : two.Short ≡ le16At book 0 → Unreadable ≡ found book
+  unfolding found
+  found-short e = rw (← e)
 
-  module _ (id : ℕ) (e : two.Value id ≡ le16At (take 1048576 s) 0) where
-    pub look-scan : (v : Verdict) → id ≡ 0x0809 → v ≡ scanAt (take 1048576 s) 0 → v ≡ look s
-    unfolding look
-    look-scan v h g = rw (← e) (g ∙ stop _ (eq-eqb id 0x0809 h))
+  module _ (id : ℕ) (e : two.Value id ≡ le16At book 0) where
+    pub found-scan : (v : Finding) → id ≡ 0x0809 → v ≡ scanAt book 0 → v ≡ found book
+    unfolding found
+    found-scan v h g = rw (← e) (g ∙ stop _ (eq-eqb id 0x0809 h))
 
-    pub look-other : (id ≡ 0x0809 → ⊥) → Unknown ≡ look s
-    unfolding look
-    look-other h = rw (← e) (skip _ (ne-eqb id 0x0809 h) refl)
+    pub found-other : (id ≡ 0x0809 → ⊥) → Unreadable ≡ found book
+    unfolding found
+    found-other h = rw (← e) (skip _ (ne-eqb id 0x0809 h) refl)
 
--- Same lock is symmetric
-beq-sym : (a b : Bool) → Bool·beq a b ≡ Bool·beq b a
-beq-sym true true = refl
-beq-sym true false = refl
-beq-sym false true = refl
-beq-sym false false = refl
-
-eqb-sym : (a b : ℕ) → eqb a b ≡ eqb b a
-eqb-sym a b = same-or a b (λ e. rw e) (λ e. ne-eqb a b e ∙ sym (ne-eqb b a (λ g. e (sym g))))
-
-version-sym : (v w : Version) → sameVersion v w ≡ sameVersion w v
-version-sym NoVersion NoVersion = refl
-version-sym NoVersion (Pair a b) = refl
-version-sym (Pair a b) NoVersion = refl
-version-sym (Pair a b) (Pair c d) = rw (eqb-sym a c, eqb-sym b d)
-
-size-sym : (v w : KeySize) → sameSize v w ≡ sameSize w v
-size-sym NoSize NoSize = refl
-size-sym NoSize (Bits b) = refl
-size-sym (Bits a) NoSize = refl
-size-sym (Bits a) (Bits b) = eqb-sym a b
-
-facts-sym : (f g : Facts) → sameFacts f g ≡ sameFacts g f
-facts-sym f g = rw (beq-sym (f .xor) (g .xor), version-sym (f .version) (g .version), size-sym (f .«key_size») (g .«key_size»))
-
-verdict-sym : (v w : Verdict) → sameVerdict v w ≡ sameVerdict w v
-verdict-sym Unknown Unknown = refl
-verdict-sym Unknown No = refl
-verdict-sym Unknown (Yes g) = refl
-verdict-sym No Unknown = refl
-verdict-sym No No = refl
-verdict-sym No (Yes g) = refl
-verdict-sym (Yes f) Unknown = refl
-verdict-sym (Yes f) No = refl
-verdict-sym (Yes f) (Yes g) = facts-sym f g
-
-pub same-lock-sym : (s t : List ℕ) → sameLock s t ≡ sameLock t s
-unfolding sameLock
-same-lock-sym s t = verdict-sym (look s) (look t)
-
--- and true of a stream and itself exactly where its look says yes
-beq-self : (a : Bool) → Bool·beq a a ≡ true
-beq-self true = refl
-beq-self false = refl
-
-version-self : (v : Version) → sameVersion v v ≡ true
-version-self NoVersion = refl
-version-self (Pair a b) = rw (eq-eqb a a refl, eq-eqb b b refl)
-
-size-self : (k : KeySize) → sameSize k k ≡ true
-size-self NoSize = refl
-size-self (Bits a) = eq-eqb a a refl
-
-pub same-lock-self : (s : List ℕ) (f : Facts) → look s ≡ Yes f → sameLock s s ≡ true
-unfolding sameLock
-same-lock-self s f e = rw (e, beq-self (f .xor), version-self (f .version), size-self (f .«key_size»))
-
-pub same-lock-yes : (s : List ℕ) → sameLock s s ≡ true → (f : Facts) × (look s ≡ Yes f)
-unfolding sameLock
-same-lock-yes s e = go (look s) refl e
-  where
-    false-true : false ≡ true → ⊥
-    false-true h = let z : _≡_ {A = ℕ} 0 1 = cc in omega arith
-
-    go : (v : Verdict) → look s ≡ v → sameVerdict v v ≡ true → (f : Facts) × (look s ≡ Yes f)
-    go Unknown g h = absurd (false-true h)
-    go No g h = absurd (false-true h)
-    go (Yes f) g h = (f, g)
+-- the verdict, by what is found
+pub look-found : (s : List ℕ) (v : Verdict) (f : Finding) → f ≡ found (capped s) → v ≡ verdictOf (capped s) f → v ≡ look s
+unfolding look
+look-found s v f e h = h ∙ ap (verdictOf (capped s)) e

@@ -1,4 +1,4 @@
--- Document 02, T-03: the key size that Look tells, case by case, and that key sizes 0 and 40 of one version are of the same lock. Both are stated over the bytes of
+-- Document 02, T-03: the key size that Look tells, case by case, and that the facts of key sizes 0 and 40 of one version agree. Both are stated over the bytes of
 -- the FILEPASS body that a look reads.
 -- Assumes nothing.
 use mathlib.Core.Path.{_≡_}
@@ -17,7 +17,8 @@ use Rattle.binary_office.specs.declared.Verdict.{Verdict}
 use Rattle.binary_office.specs.declared.Verdict.the-variants.{Yes, No, Unknown}
 use Rattle.binary_office.specs.Fields.{le16At, le32At}
 use Rattle.binary_office.specs.Walk.{stepAt, neverEncrypted}
-use Rattle.binary_office.specs.Look.{factsOf, look, sameLock}
+use Rattle.binary_office.specs.Look.{factsOf, look}
+use Rattle.binary_office.specs.SameLock.{factsAgree}
 
 -- the key size that a verdict reports
 abbrev pub reported : Verdict → KeySize
@@ -83,14 +84,14 @@ pub record Told (s b : List ℕ) : Type 0 where
 -- the lock of two streams whose bodies have one version
 pub record TwoSizes (s t b c : List ℕ) : Type 0 where
   -- "Same lock follows, so a 0 and a 40 of one version now agree."
-  pub agree : (major : ℕ) → Versioned b major → Versioned c major → le32At b 30 ≡ four.Value 0 → le32At c 30 ≡ four.Value 40 → sameLock s t ≡ true
+  pub agree : (major : ℕ) → Versioned b major → Versioned c major → le32At b 30 ≡ four.Value 0 → le32At c 30 ≡ four.Value 40 → factsAgree s t ≡ true
   -- a 0 and none do not: above 4,096, and where the four bytes are not all there
-  pub above : (major k : ℕ) → Versioned b major → Versioned c major → le32At b 30 ≡ four.Value 0 → le32At c 30 ≡ four.Value k → 4096 < k → sameLock s t ≡ false
-  pub cut : (major : ℕ) → Versioned b major → Versioned c major → le32At b 30 ≡ four.Value 0 → le32At c 30 ≡ four.Short → sameLock s t ≡ false
+  pub above : (major k : ℕ) → Versioned b major → Versioned c major → le32At b 30 ≡ four.Value 0 → le32At c 30 ≡ four.Value k → 4096 < k → factsAgree s t ≡ false
+  pub cut : (major : ℕ) → Versioned b major → Versioned c major → le32At b 30 ≡ four.Value 0 → le32At c 30 ≡ four.Short → factsAgree s t ≡ false
 
 pub record KeySizes : Type 0 where
   pub one-body : OneBody
   pub told : (s b : List ℕ) → LooksAt s b → Told s b
   pub two-sizes : (s t b c : List ℕ) → LooksAt s b → LooksAt t c → TwoSizes s t b c
   -- and so in the other order
-  pub symmetric : (s t : List ℕ) → sameLock s t ≡ sameLock t s
+  pub symmetric : (s t : List ℕ) → factsAgree s t ≡ factsAgree t s

@@ -1,7 +1,7 @@
--- Look and Same lock of document 01 ("Look: is the book locked"), with key size 0 as document 02 has it (T-03).
+-- Look of document 01 ("Look: is the book locked"), with key size 0 as document 02 has it (T-03).
 -- Assumes nothing.
 use Prim.Native.Nat.{ℕ, zero, suc, _+_}
-use mathlib.Core.Bool.{Bool, true, false, not, _&&_, Bool·beq}
+use mathlib.Core.Bool.{Bool, true, false, not, _&&_}
 use mathlib.Core.List.{List}
 use lib.Dec.{eqb, leb}
 use lib.ListN.{length, take, drop}
@@ -17,6 +17,8 @@ use Rattle.binary_office.specs.declared.Version.the-variants.{Pair, NoVe
 use Rattle.binary_office.specs.declared.KeySize.{KeySize}
 use Rattle.binary_office.specs.declared.KeySize.the-variants.{Bits, NoSize}
 use Rattle.binary_office.specs.declared.Facts.{Facts}
+use Rattle.binary_office.specs.declared.Finding.{Finding}
+use Rattle.binary_office.specs.declared.Finding.the-variants.{Filepass, Other, Unreadable}
 use Rattle.binary_office.specs.declared.Verdict.{Verdict}
 use Rattle.binary_office.specs.declared.Verdict.the-variants.{Yes, No, Unknown}
 
@@ -51,62 +53,48 @@ byType body (two.Value t) =
 unfoldable pub factsOf : List ℕ → Facts
 factsOf body = byType body (le16At body 0)
 
--- the scan stops at the first of three findings. A full header is judged by its id before its length: FILEPASS is yes, even if its body is cut;
--- an id outside the seven is no; a header cut short, or a body past the end, is unknown. `on` is the scan from the next header.
-abbrev pub judged : List ℕ → ℕ → ℕ → ℕ → (ℕ → Verdict) → Verdict
+-- the scan stops at the first of three findings. A full header is judged by its id before its length: FILEPASS, even if its body is cut, by where the body
+-- starts and the length that the header states; an id outside the seven; a header cut short, or a body past the end. `on` is the scan from the next header.
+abbrev pub judged : List ℕ → ℕ → ℕ → ℕ → (ℕ → Finding) → Finding
 judged s at id len on =
-    pick (eqb id 0x002F) (Yes (factsOf (take len (drop (at + 4) s))))
-    (pick (not (neverEncrypted id)) No
+    pick (eqb id 0x002F) (Filepass (at + 4) len)
+    (pick (not (neverEncrypted id)) Other
     (pick (leb (at + 4 + len) (length s)) (on (at + 4 + len))
-    Unknown))
+    Unreadable))
 
-abbrev pub scanByLength : List ℕ → ℕ → ℕ → (ℕ → Verdict) → Field16 → Verdict
-scanByLength s at id on two.Short = Unknown
+abbrev pub scanByLength : List ℕ → ℕ → ℕ → (ℕ → Finding) → Field16 → Finding
+scanByLength s at id on two.Short = Unreadable
 scanByLength s at id on (two.Value len) = judged s at id len on
 
-abbrev pub scanById : List ℕ → ℕ → (ℕ → Verdict) → Field16 → Verdict
-scanById s at on two.Short = Unknown
+abbrev pub scanById : List ℕ → ℕ → (ℕ → Finding) → Field16 → Finding
+scanById s at on two.Short = Unreadable
 scanById s at on (two.Value id) = scanByLength s at id on (le16At s (at + 2))
 
 -- the first argument bounds the number of headers
-unfoldable pub scanFrom : ℕ → List ℕ → ℕ → Verdict
-scanFrom zero s at = Unknown
+unfoldable pub scanFrom : ℕ → List ℕ → ℕ → Finding
+scanFrom zero s at = Unreadable
 scanFrom (suc f) s at = scanById s at (scanFrom f s) (le16At s at)
 
-unfoldable pub scanAt : List ℕ → ℕ → Verdict
+unfoldable pub scanAt : List ℕ → ℕ → Finding
 scanAt s at = scanFrom (suc (length s)) s at
 
 -- the first two bytes must be BOF, else unknown
-abbrev pub fromBof : List ℕ → Field16 → Verdict
-fromBof s two.Short = Unknown
-fromBof s (two.Value id) = pick (eqb id 0x0809) (scanAt s 0) Unknown
+abbrev pub fromBof : List ℕ → Field16 → Finding
+fromBof s two.Short = Unreadable
+fromBof s (two.Value id) = pick (eqb id 0x0809) (scanAt s 0) Unreadable
+
+unfoldable pub found : (book : List ℕ) → Finding
+found book = fromBof book (le16At book 0)
+
+-- FILEPASS is yes, with the facts of as much of the body as is there; an id outside the seven is no; what can't be read is unknown
+abbrev pub verdictOf : (book : List ℕ) → Finding → Verdict
+verdictOf book (Filepass start len) = Yes (factsOf (take len (drop start book)))
+verdictOf book Other = No
+verdictOf book Unreadable = Unknown
 
 -- only the first 1,048,576 bytes are read
+abbrev pub capped : (stream : List ℕ) → List ℕ
+capped stream = take 1048576 stream
+
 unfoldable pub look : List ℕ → Verdict
-look s = let book = take 1048576 s in fromBof book (le16At book 0)
-
--- Same lock: both looks say yes, and their XOR mark, version and key size agree
-abbrev pub sameVersion : Version → Version → Bool
-sameVersion NoVersion NoVersion = true
-sameVersion NoVersion (Pair a b) = false
-sameVersion (Pair a b) NoVersion = false
-sameVersion (Pair a b) (Pair c d) = eqb a c && eqb b d
-
-abbrev pub sameSize : KeySize → KeySize → Bool
-sameSize NoSize NoSize = true
-sameSize NoSize (Bits b) = false
-sameSize (Bits a) NoSize = false
-sameSize (Bits a) (Bits b) = eqb a b
-
-abbrev pub sameFacts : Facts → Facts → Bool
-sameFacts f g = Bool·beq (f .xor) (g .xor) && sameVersion (f .version) (g .version) && sameSize (f .«key_size») (g .«key_size»)
-
-abbrev pub sameVerdict : Verdict → Verdict → Bool
-sameVerdict Unknown w = false
-sameVerdict No w = false
-sameVerdict (Yes f) Unknown = false
-sameVerdict (Yes f) No = false
-sameVerdict (Yes f) (Yes g) = sameFacts f g
-
-unfoldable pub sameLock : List ℕ → List ℕ → Bool
-sameLock s t = sameVerdict (look s) (look t)
+look s = verdictOf (capped s) (found (capped s))

@@ -6,7 +6,8 @@ ghost use Prim.Native.Nat.{_+_, _*_, _^_, _≤_, _<_, min};
 ghost use lib.ListN.{length, take, drop};
 ghost use Rattle.binary_office.specs.Fields.{le16At, le32At};
 ghost use Rattle.binary_office.specs.Walk.{stepAt, nextOf, nextAt, walk, walkedOf, neverEncrypted, clearLen};
-ghost use Rattle.binary_office.specs.Look.{versionOf, bitsOf, bitsIn, sizeOf, factsOf, scanAt, look, sameVersion, sameSize, sameFacts, sameVerdict, sameLock};
+ghost use Rattle.binary_office.specs.Look.{versionOf, bitsOf, bitsIn, sizeOf, factsOf, scanAt, found, look};
+ghost use Rattle.binary_office.specs.SameLock.{sameBytes, sameLock};
 
 // A field of two bytes: its value, or that it is cut short.
 pub enum Field16 {
@@ -56,6 +57,14 @@ pub struct Facts {
     pub xor: bool,
     pub version: Version,
     pub key_size: KeySize,
+}
+
+// Where the scan of a book stops: at a FILEPASS, by where its body starts and the length that its header states; at an
+// id outside the seven; at what can't be read.
+pub enum Finding {
+    Filepass(usize, u16),
+    Other,
+    Unreadable,
 }
 
 // Whether a book is locked.
@@ -297,32 +306,45 @@ fn facts_at(book: &[u8], start: usize, len: u16) -> Facts
     facts_of(&book[start..start + n])
 }
 
-// The scan of the headers up to the first of three findings: FILEPASS, an id outside the seven, an
-// unreadable header or body.
-fn scan(book: &[u8]) -> Verdict
+// The scan of the headers up to the first of three findings.
+fn scan(book: &[u8]) -> Finding
     ensures { λ r. ⌜ r ≡ scanAt (now (book .entry)) 0 ⌝ }
 {
     let mut at: usize = 0;
-    let verdict = loop {
+    let finding = loop {
         let Field16::Value(id) = le16(book, at) else {
-            break Verdict::Unknown;
+            break Finding::Unreadable;
         };
         let Field16::Value(len) = le16(book, at + 2) else {
-            break Verdict::Unknown;
+            break Finding::Unreadable;
         };
         if id == 0x002F {
-            break Verdict::Yes(facts_at(book, at + 4, len));
+            break Finding::Filepass(at + 4, len);
         }
         if !never_encrypted(id) {
-            break Verdict::No;
+            break Finding::Other;
         }
         let end = at + 4 + (len as usize);
         if book.len() < end {
-            break Verdict::Unknown;
+            break Finding::Unreadable;
         }
         at = end;
     };
-    verdict
+    finding
+}
+
+// What a look at a book finds, which must start with BOF.
+fn find(book: &[u8]) -> Finding
+    ensures { λ r. ⌜ r ≡ found (now (book .entry)) ⌝ }
+{
+    let Field16::Value(id) = le16(book, 0) else {
+        return Finding::Unreadable;
+    };
+    if id == 0x0809 {
+        scan(book)
+    } else {
+        Finding::Unreadable
+    }
 }
 
 // Whether a book is locked, by its first bytes up to the cap, and the facts of its lock.
@@ -331,80 +353,62 @@ pub fn look(stream: &[u8]) -> Verdict
 {
     let n = least_usize(stream.len(), limits::BIFF_SCAN_CAP);
     let book = &stream[0..n];
-    let Field16::Value(id) = le16(book, 0) else {
-        return Verdict::Unknown;
-    };
-    if id == 0x0809 {
-        scan(book)
-    } else {
-        Verdict::Unknown
+    match find(book) {
+        Finding::Unreadable => Verdict::Unknown,
+        Finding::Other => Verdict::No,
+        Finding::Filepass(start, len) => Verdict::Yes(facts_at(book, start, len)),
     }
 }
 
-// Whether two versions agree.
-fn same_version(a: Version, b: Version) -> bool
-    ensures { λ r. ⌜ r ≡ sameVersion a b ⌝ }
+// Whether two slices have the same bytes. Of slices of different lengths none is read.
+fn same_bytes(a: &[u8], b: &[u8]) -> bool
+    ensures { λ r. ⌜ r ≡ sameBytes (now (a .entry)) (now (b .entry)) ⌝ }
 {
-    match a {
-        Version::NoVersion => match b {
-            Version::NoVersion => true,
-            Version::Pair(_, _) => false,
-        },
-        Version::Pair(major, minor) => match b {
-            Version::NoVersion => false,
-            Version::Pair(other_major, other_minor) => (major == other_major)
-                & (minor == other_minor),
-        },
+    if a.len() != b.len() {
+        return false;
     }
-}
-
-// Whether two key sizes agree.
-fn same_size(a: KeySize, b: KeySize) -> bool
-    ensures { λ r. ⌜ r ≡ sameSize a b ⌝ }
-{
-    match a {
-        KeySize::NoSize => match b {
-            KeySize::NoSize => true,
-            KeySize::Bits(_) => false,
-        },
-        KeySize::Bits(bits) => match b {
-            KeySize::NoSize => false,
-            KeySize::Bits(other) => bits == other,
-        },
+    let mut i: usize = 0;
+    while i < a.len() {
+        if a[i] != b[i] {
+            return false;
+        }
+        i += 1;
     }
+    true
 }
 
-// Whether two locks have the same facts.
-fn same_facts(f: Facts, g: Facts) -> bool
-    ensures { λ r. ⌜ r ≡ sameFacts f g ⌝ }
+// Whether the first so many bytes of two slices are the same; of a slice that is shorter, all of it is compared.
+fn same_first(a: &[u8], len: u16, b: &[u8], size: u16) -> bool
+    ensures { λ r. ⌜ r ≡ sameBytes (take len (now (a .entry))) (take size (now (b .entry))) ⌝ }
 {
-    let version = f.version;
-    let other_version = g.version;
-    let size = f.key_size;
-    let other_size = g.key_size;
-    (f.xor == g.xor) & same_version(version, other_version) & same_size(size, other_size)
+    let n = least_usize(a.len(), len as usize);
+    let m = least_usize(b.len(), size as usize);
+    same_bytes(&a[0..n], &b[0..m])
 }
 
-// Whether two verdicts are both yes, with facts that agree.
-fn same_verdict(v: Verdict, w: Verdict) -> bool
-    ensures { λ r. ⌜ r ≡ sameVerdict v w ⌝ }
-{
-    match v {
-        Verdict::Unknown => false,
-        Verdict::No => false,
-        Verdict::Yes(f) => match w {
-            Verdict::Unknown => false,
-            Verdict::No => false,
-            Verdict::Yes(g) => same_facts(f, g),
-        },
-    }
-}
-
-// Whether two books have the same lock, as far as Look reports.
+// Whether two books have the same lock: both are locked, and their FILEPASS bodies are the same up to the cap. The facts
+// that Look reports are then the same.
 pub fn same_lock(a: &[u8], b: &[u8]) -> bool
     ensures { λ r. ⌜ r ≡ sameLock (now (a .entry)) (now (b .entry)) ⌝ }
 {
-    same_verdict(look(a), look(b))
+    let n = least_usize(a.len(), limits::BIFF_SCAN_CAP);
+    let m = least_usize(b.len(), limits::BIFF_SCAN_CAP);
+    let book = &a[0..n];
+    let other = &b[0..m];
+    match find(book) {
+        Finding::Unreadable => false,
+        Finding::Other => false,
+        Finding::Filepass(start, len) => match find(other) {
+            Finding::Unreadable => false,
+            Finding::Other => false,
+            Finding::Filepass(place, size) => same_first(
+                &book[start..n],
+                len,
+                &other[place..m],
+                size,
+            ),
+        },
+    }
 }
 
 // The records of a stream, one after the other: the source's iterator, as a struct that keeps the

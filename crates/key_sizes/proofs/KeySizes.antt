@@ -18,12 +18,14 @@ use Rattle.binary_office.specs.declared.Field16.the-variants as two
 use Rattle.binary_office.specs.declared.Field32.the-variants as four
 use Rattle.binary_office.specs.declared.KeySize.the-variants.{Bits, NoSize}
 use Rattle.binary_office.specs.declared.Facts.{Facts}
+use Rattle.binary_office.specs.declared.Finding.the-variants.{Filepass, Unreadable}
+use Rattle.binary_office.specs.declared.Verdict.the-variants.{Unknown}
 use Rattle.binary_office.specs.Fields.{le32At}
 use Rattle.binary_office.specs.Walk.{BiffRecord, walk}
 use Rattle.binary_office.specs.Look.{bitsOf, bitsIn, factsOf, look}
 use Rattle.binary_office.specs.KeySizes.{reported, Versioned}
 use Rattle.binary_office.proofs.Headers.{le16-value, le32-value, le16-first, le32-first, le32-beyond}
-use Rattle.binary_office.proofs.Locks.{bits-zero, bits-stated, part-cut}
+use Rattle.binary_office.proofs.Locks.{bits-zero, bits-stated, part-cut, look-found}
 use Rattle.binary_office.proofs.KeySizes.{facts-are, no-size}
 use Rattle.binary_office.proofs.Bodies.{impossible}
 use Rattle.file_params.specs.Questions.{Question, asked, only, inOrder, locked, book, lock, rc4, version, office97, cryptoApi, encryptionType, ofStream, filepass, bodyOf, filepassBody, otherId, startsBof, isSome, typeOf, structureOf, majorOf, minorOf, isOffice97, isCryptoApi, headerSize, verifierAt, keySize}
@@ -249,7 +251,7 @@ module _ (s : List ℕ) (passed : none ≡ asked (lock (filepassBody s))) (is : 
 
       size-read : r .at + 4 ≤ 1048576 → reported (look s) ≡ factsOf (take n its-body) .«key_size»
       size-read h =
-          ap reported (looked s r bof f in-order ∙ sym (seen-there s 1048576 r h))
+          ap reported (sym (look-found s _ (Filepass (r .at + 4) (r .len)) (seen-there s 1048576 r h ∙ sym (looked s r bof f in-order)) refl))
           ∙ ap (λ (b : List ℕ). factsOf b .«key_size») (part-cut s 1048576 (r .at + 4) (r .len) ∙ ap (take n) (sym body-is))
 
       size-same : r .at + 38 ≤ 1048576 → reported (look s) ≡ Bits (report s .«key_bits»)
@@ -259,7 +261,7 @@ module _ (s : List ℕ) (passed : none ≡ asked (lock (filepassBody s))) (is : 
       size-none h =
           either (r .at + 4) 1048576
           (λ k. size-read k ∙ cut-none its-body its-fields n (omega arith))
-          (λ k. ap reported (looked s r bof f in-order ∙ sym (seen-not s 1048576 r k)))
+          (λ k. ap reported (sym (look-found s Unknown Unreadable (seen-not s 1048576 r k ∙ sym (looked s r bof f in-order)) refl)))
 
       size-only : reported (look s) ≡ Bits (report s .«key_bits») → r .at + 38 ≤ 1048576
       size-only g =

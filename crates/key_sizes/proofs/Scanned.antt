@@ -9,23 +9,23 @@ use Prim.Native.Nat.{ℕ, _+_, _≤_, _<_}
 use native.Mathlib.Omega.{arith}
 use borrow.Author.Tests.{eqb-true, le-leb, lt-leb}
 use lib.Dec.{leb}
-use lib.ListN.{length, take, drop, length-take}
+use lib.ListN.{length, take, length-take}
 use Rattle.laws.specs.Choice.{pick}
 use Rattle.laws.proofs.Choice.{stop, skip, either, same-or}
 use Rattle.binary_office.specs.declared.Field16.{Field16}
 use Rattle.binary_office.specs.declared.Field16.the-variants as two
 use Rattle.binary_office.specs.declared.Step.{Step}
 use Rattle.binary_office.specs.declared.Step.the-variants as step
-use Rattle.binary_office.specs.declared.Verdict.{Verdict}
-use Rattle.binary_office.specs.declared.Verdict.the-variants.{Yes, Unknown}
+use Rattle.binary_office.specs.declared.Finding.{Finding}
+use Rattle.binary_office.specs.declared.Finding.the-variants.{Filepass, Unreadable}
 use Rattle.binary_office.specs.Fields.{le16At}
 use Rattle.binary_office.specs.Walk.{BiffRecord, stepAt, walkAt, walk, neverEncrypted}
-use Rattle.binary_office.specs.Look.{factsOf, scanAt, look}
+use Rattle.binary_office.specs.Look.{scanAt, found, capped}
 use Rattle.binary_office.proofs.Headers.{le16-first, le16-beyond}
 use Rattle.binary_office.proofs.Walks.{record-there, record-within}
 use Rattle.binary_office.proofs.Along.{records-end, records-fault, along}
 use Rattle.binary_office.proofs.Bodies.{impossible}
-use Rattle.binary_office.proofs.Locks.{scan-no-id, scan-no-len, scan-found, scan-past, scan-on, look-scan}
+use Rattle.binary_office.proofs.Locks.{scan-no-id, scan-no-len, scan-found, scan-past, scan-on, found-scan}
 use Rattle.file_params.specs.Questions.{filepass, otherId, startsBof}
 use Rattle.survey.proofs.First.{starts, not-bof}
 use Rattle.survey.proofs.Records.{filepass-here, filepass-on, other-here, other-on, no-filepass, located}
@@ -35,21 +35,21 @@ module _ (s : List ℕ) (most : ℕ) where
   abbrev pub book : List ℕ
   book = take most s
 
-  -- what a scan tells that comes to a FILEPASS of the walk, or ends before it
-  abbrev pub seen : BiffRecord → Verdict
-  seen r = pick (leb (r .at + 4) most) (Yes (factsOf (take (r .len) (drop (r .at + 4) book)))) Unknown
+  -- what a scan finds that comes to a FILEPASS of the walk, or ends before it
+  abbrev pub seen : BiffRecord → Finding
+  seen r = pick (leb (r .at + 4) most) (Filepass (r .at + 4) (r .len)) Unreadable
 
-  pub seen-there : (r : BiffRecord) → r .at + 4 ≤ most → Yes (factsOf (take (r .len) (drop (r .at + 4) book))) ≡ seen r
+  pub seen-there : (r : BiffRecord) → r .at + 4 ≤ most → Filepass (r .at + 4) (r .len) ≡ seen r
   seen-there r h = stop _ (le-leb (r .at + 4) most h)
 
-  pub seen-not : (r : BiffRecord) → most < r .at + 4 → Unknown ≡ seen r
+  pub seen-not : (r : BiffRecord) → most < r .at + 4 → Unreadable ≡ seen r
   seen-not r h = skip _ (lt-leb (r .at + 4) most h) refl
 
   -- a header that is cut
-  scan-cut : (at : ℕ) → most < at + 4 → Unknown ≡ scanAt book at
+  scan-cut : (at : ℕ) → most < at + 4 → Unreadable ≡ scanAt book at
   scan-cut at h = by-id (le16At book at) refl
     where
-      by-id : (w : Field16) → w ≡ le16At book at → Unknown ≡ scanAt book at
+      by-id : (w : Field16) → w ≡ le16At book at → Unreadable ≡ scanAt book at
       by-id two.Short e = scan-no-id book at e
       by-id (two.Value id) e = scan-no-len book at id e (le16-beyond s most (at + 2) (omega arith))
 
@@ -129,9 +129,9 @@ bof-first s b = by-step (stepAt s 0) refl
     by-step (step.Record id len) e =
         ap two.Value (sym (eqb-true id 0x0809 (sym (starts s 0 id len e) ∙ b))) ∙ record-there s 0 id len e .id-there
 
--- Look, of a stream whose first FILEPASS has only the seven before it
+-- what a look finds, of a stream whose first FILEPASS has only the seven before it
 pub looked : (s : List ℕ) (r : BiffRecord) → startsBof (walk s .records) ≡ true → filepass (walk s .records) ≡ some r → otherId (walk s .records) ≡ none
-    → look s ≡ seen s 1048576 r
+    → found (capped s) ≡ seen s 1048576 r
 looked s r b f o =
-    sym (look-scan s 0x0809 (bof-first s b ∙ sym (le16-first s 1048576 0 (omega arith))) (seen s 1048576 r) refl
+    sym (found-scan (capped s) 0x0809 (bof-first s b ∙ sym (le16-first s 1048576 0 (omega arith))) (seen s 1048576 r) refl
     (sym (scanned s 1048576 0 (omega arith) r f o)))

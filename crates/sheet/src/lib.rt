@@ -3,7 +3,8 @@
 ghost use mathlib.Core.Path.{_≡_};
 ghost use Rattle.laws.specs.Choice.{pick};
 ghost use Rattle.binary_office.specs.Walk.{stepAt};
-ghost use Rattle.binary_office.specs.Look.{look, sameLock};
+ghost use Rattle.binary_office.specs.Look.{look};
+ghost use Rattle.binary_office.specs.SameLock.{sameLock};
 ghost use Rattle.directory.specs.Directory.{directory};
 ghost use Rattle.forecast.specs.Forecast.{forecast};
 ghost use Rattle.sheet.specs.Facts.{flag, facts, lookNumber, lookFacts, recordNumber, recordFacts, startFacts, refusalFacts, directoryNumber, directoryFacts, forecastNumber, forecastFacts, bitsOf, thereOf, majorOf, minorOf, lockNumber, openNumber, openFacts, OpensInC, asOpened, SealsInC};

@@ -9,7 +9,6 @@ use borrow.Author.Tests.{not-true, not-false}
 use Rattle.binary_office.specs.Look.{scanAt}
 use Rattle.binary_office.proofs.Locks.{scan-no-id, scan-no-len, scan-found, scan-absent, scan-past, scan-on}
 use Rattle.binary_office.proofs.Headers.{le16-within}
-use Rattle.binary_office.specs.declared.Verdict.the-variants.{Yes}
 use Rattle.binary_office.proofs.scan.Statement.{statement}
 use Rattle.binary_office.proofs.scan.Tie as tie
 
@@ -22,13 +21,14 @@ abbrev μ-loop : tie.MeasureT-loop
 loop-holds : tie.Need-loop-holds Inv-loop μ-loop
 loop-holds c = (search needs, refl)
 
-facts-at-requires : tie.Need-facts-at-requires Inv-loop μ-loop
-facts-at-requires c κs =
+add-body : tie.Need-add-t12 Inv-loop μ-loop
+add-body c =
     let at-len = c .before .before in
     let at-second-le16 = at-len .before .before in
     let start = at-second-le16 .before .before .before .before .before .before .before in
-    let h = le16-within (start .args .book .now) _ _ (sym (at-len .len .given .1) ∙ at-second-le16 .le162 .ensures) in
-    omega arith
+    let there = le16-within (start .args .book .now) _ _ (sym (at-len .len .given .1) ∙ at-second-le16 .le162 .ensures) in
+    let short = at-second-le16 .before .before .before .before .before .before .shared-slice-known .given in
+    record { fits = omega arith }
 
 loop-again : tie.Need-loop-again Inv-loop μ-loop
 loop-again c =
@@ -65,14 +65,14 @@ returns-2 c =
 
 returns-3 : tie.Need-returns-3 Inv-loop μ-loop
 returns-3 c =
-    let at-len = c .before .before .before in
+    let at-len = c .before .before in
     let at-second-le16 = at-len .before .before in
     let at-id = at-second-le16 .before .before in
     let at-le16 = at-id .before .before in
     let at-loop = at-le16 .before in
     let start = at-loop .before .before in
-    ap Yes (c .facts-at .ensures) ∙ scan-found (start .args .book .now) (at-loop .loop .at) _ _ (sym (at-id .id .given .1) ∙ at-le16 .le16 .ensures)
-    (sym (at-len .len .given .1) ∙ at-second-le16 .le162 .ensures) (c .before .if1 .taken) ∙ at-loop .loop .inv .1
+    scan-found (start .args .book .now) (at-loop .loop .at) _ _ (sym (at-id .id .given .1) ∙ at-le16 .le16 .ensures)
+    (sym (at-len .len .given .1) ∙ at-second-le16 .le162 .ensures) (c .if1 .taken) ∙ at-loop .loop .inv .1
 
 returns-4 : tie.Need-returns-4 Inv-loop μ-loop
 returns-4 c =
@@ -115,8 +115,7 @@ scan-spec =
     (λ c κs. search needs)
     (λ c. search needs)
     (λ c. search needs)
-    (λ c. search needs)
-    facts-at-requires
+    add-body
     (λ c κs. search needs)
     (λ c. search needs)
     (λ c. search needs)

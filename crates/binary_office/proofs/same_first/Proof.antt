@@ -1,0 +1,31 @@
+-- `binary_office::same_first` meets its contract: each part is the first so many bytes of its slice.
+-- Assumes nothing.
+use mathlib.Core.Path.{_∙_}
+use Rattle.binary_office.proofs.Locks.{book-cut}
+use borrow.Author.Needs.{needs}
+use Rattle.binary_office.proofs.same_first.Statement.{statement}
+use Rattle.binary_office.proofs.same_first.Tie as tie
+
+returns : tie.Need-returns
+returns c =
+    let at-second = c .before .before .before in
+    let at-first = at-second .before in
+    let args = at-first .before .before .before .args in
+    let first = book-cut (args .a .now) (args .len) (at-first .least-usize .result) (at-first .least-usize .ensures) in
+    let second = book-cut (args .b .now) (args .size) (at-second .least-usize2 .result) (at-second .least-usize2 .ensures) in
+    c .same-bytes .ensures ∙ rw (first, second)
+
+pub same-first-spec : {M : Type 1} → statement M
+same-first-spec =
+    tie.close
+    (tie.spec
+    (λ c κs. search needs)
+    (λ c κs. search needs)
+    (λ c. search needs)
+    (λ c. search needs)
+    (λ c. search needs)
+    (λ c. search needs)
+    (λ c. search needs)
+    (λ c. search needs)
+    (λ c κs. search needs)
+    returns)
