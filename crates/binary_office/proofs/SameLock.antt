@@ -9,7 +9,7 @@ use lib.Dec.{eqb}
 use lib.ListN.{take, drop, length-take}
 use lib.Seq.{take-all}
 use borrow.Author.Tests.{eq-eqb, ne-eqb, eqb-true}
-use Rattle.laws.proofs.Choice.{same-or}
+use Rattle.laws.proofs.Choice.{same-or, and-left, and-right}
 use Rattle.binary_office.specs.declared.Field32.the-variants as four
 use Rattle.binary_office.specs.declared.Version.{Version}
 use Rattle.binary_office.specs.declared.Version.the-variants.{Pair, NoVersion}
@@ -29,33 +29,28 @@ use Rattle.binary_office.proofs.Bodies.{impossible, finds, Finds, yes-f
 use Rattle.binary_office.proofs.Locks.{look-found}
 
 -- equal bytes are one list
-module _ where
-  both-true : (t u : Bool) → (t && u) ≡ true → (t ≡ true) × (u ≡ true)
-  both-true true u e = (refl, e)
-  both-true false u e = let z : false ≡ true = e in impossible (cc)
+pub bytes-equal : (x y : List ℕ) → sameBytes x y ≡ true → x ≡ y
+unfolding sameBytes
+bytes-equal [] [] e = refl
+bytes-equal [] (b ∷ y) e = let z : false ≡ true = e in impossible (cc)
+bytes-equal (a ∷ x) [] e = let z : false ≡ true = e in impossible (cc)
+bytes-equal (a ∷ x) (b ∷ y) e = rw (eqb-true a b (and-left (eqb a b) (sameBytes x y) e), bytes-equal x y (and-right (eqb a b) (sameBytes x y) e))
 
-  pub bytes-equal : (x y : List ℕ) → sameBytes x y ≡ true → x ≡ y
-  unfolding sameBytes
-  bytes-equal [] [] e = refl
-  bytes-equal [] (b ∷ y) e = let z : false ≡ true = e in impossible (cc)
-  bytes-equal (a ∷ x) [] e = let z : false ≡ true = e in impossible (cc)
-  bytes-equal (a ∷ x) (b ∷ y) e = let h = both-true (eqb a b) (sameBytes x y) e in rw (eqb-true a b (h .0), bytes-equal x y (h .1))
+bytes-self : (x : List ℕ) → sameBytes x x ≡ true
+unfolding sameBytes
+bytes-self [] = refl
+bytes-self (a ∷ x) = rw (eq-eqb a a refl, bytes-self x)
 
-  bytes-self : (x : List ℕ) → sameBytes x x ≡ true
-  unfolding sameBytes
-  bytes-self [] = refl
-  bytes-self (a ∷ x) = rw (eq-eqb a a refl, bytes-self x)
+pub equal-bytes : (x y : List ℕ) → x ≡ y → sameBytes x y ≡ true
+equal-bytes x y e = ap (sameBytes x) (sym e) ∙ bytes-self x
 
-  pub equal-bytes : (x y : List ℕ) → x ≡ y → sameBytes x y ≡ true
-  equal-bytes x y e = ap (sameBytes x) (sym e) ∙ bytes-self x
+-- a test that does not hold fails
+refuted : (t : Bool) → (t ≡ true → ⊥) → t ≡ false
+refuted true f = absurd (f refl)
+refuted false f = refl
 
-  -- a test that fails if it held
-  refuted : (t : Bool) → (t ≡ true → ⊥) → t ≡ false
-  refuted true f = absurd (f refl)
-  refuted false f = refl
-
-  pub other-bytes : (x y : List ℕ) → (x ≡ y → ⊥) → sameBytes x y ≡ false
-  other-bytes x y f = refuted (sameBytes x y) (λ e. f (bytes-equal x y e))
+pub other-bytes : (x y : List ℕ) → (x ≡ y → ⊥) → sameBytes x y ≡ false
+other-bytes x y f = refuted (sameBytes x y) (λ e. f (bytes-equal x y e))
 
 -- the facts: in either order, and of one stream
 beq-sym : (a b : Bool) → Bool·beq a b ≡ Bool·beq b a
@@ -156,11 +151,11 @@ module _ (s t : List ℕ) where
 
   pub shared-facts : sameLock s t ≡ true → factsAgree s t ≡ true
   unfolding sameLock
-  shared-facts e = both-true (factsAgree s t) (sameBytes (cappedBody s) (cappedBody t)) e .0
+  shared-facts e = and-left (factsAgree s t) (sameBytes (cappedBody s) (cappedBody t)) e
 
   pub shared-body : sameLock s t ≡ true → cappedBody s ≡ cappedBody t
   unfolding sameLock
-  shared-body e = bytes-equal (cappedBody s) (cappedBody t) (both-true (factsAgree s t) (sameBytes (cappedBody s) (cappedBody t)) e .1)
+  shared-body e = bytes-equal (cappedBody s) (cappedBody t) (and-right (factsAgree s t) (sameBytes (cappedBody s) (cappedBody t)) e)
 
   pub shared-yes : sameLock s t ≡ true → (f : Facts) × (look s ≡ Yes f)
   shared-yes e = agree-yes s t (shared-facts e)

@@ -2,17 +2,17 @@
 -- same body (`looked`), cut at the last byte that it reads; and a field that lies before the cut is the same in both.
 -- Assumes nothing.
 use mathlib.Core.Path.{_≡_, refl, sym, ap, _∙_}
-use mathlib.Core.Bool.{Bool, true, false, not, _&&_, _||_}
-use mathlib.Core.List.{List, [], _∷_, _++_}
-use mathlib.Core.Option.{Option, none, some}
-use Prim.Native.Nat.{ℕ, zero, suc, _+_, _-_, _%_, _≤_, _<_}
+use mathlib.Core.Bool.{Bool, true, false, _&&_, _||_}
+use mathlib.Core.List.{List, _++_}
+use mathlib.Core.Option.{none, some}
+use Prim.Native.Nat.{ℕ, _+_, _-_, _%_, _≤_, _<_}
 use native.Mathlib.Omega.{arith}
 use borrow.Author.Tests.{eq-eqb, ne-eqb, eqb-true, leb-true}
 use lib.Dec.{eqb}
 use lib.ListN.{length, getD, take, drop, length-drop}
 use lib.Seq.{getD-drop}
 use Rattle.laws.specs.Choice.{pick, within}
-use Rattle.laws.proofs.Choice.{taken, left, either, same-or, within-from, within-to}
+use Rattle.laws.proofs.Choice.{taken, left, either, same-or, and-left, and-right, within-from, within-to}
 use Rattle.word.specs.Word.{le32}
 use Rattle.binary_office.specs.declared.Field16.the-variants as two
 use Rattle.binary_office.specs.declared.Field32.the-variants as four
@@ -28,8 +28,8 @@ use Rattle.binary_office.proofs.Headers.{le16-value, le32-value, le16-first, le
 use Rattle.binary_office.proofs.Locks.{bits-zero, bits-stated, part-cut, look-found}
 use Rattle.binary_office.proofs.KeySizes.{facts-are, no-size}
 use Rattle.binary_office.proofs.Bodies.{impossible}
-use Rattle.file_params.specs.Questions.{Question, asked, only, inOrder, locked, book, lock, rc4, version, office97, cryptoApi, encryptionType, ofStream, filepass, bodyOf, filepassBody, otherId, startsBof, isSome, typeOf, structureOf, majorOf, minorOf, isOffice97, isCryptoApi, headerSize, verifierAt, keySize}
-use Rattle.file_params.proofs.Laws.{none-of-both, first-yes, rest-yes, only-yes}
+use Rattle.file_params.specs.Questions.{asked, only, book, lock, rc4, version, office97, cryptoApi, encryptionType, ofStream, filepass, bodyOf, filepassBody, typeOf, structureOf, majorOf, minorOf, isOffice97, isCryptoApi, headerSize, verifierAt, keySize}
+use Rattle.file_params.proofs.Laws.{none-of-both, first-yes, only-yes}
 use Rattle.rc4_cryptoapi.specs.Parse.{keyBits}
 use Rattle.block_keys.specs.declared.Rc4Lock.{Rc4Lock}
 use Rattle.block_keys.specs.Lock.{lockOf, office97Lock, cryptoApiLock}
@@ -40,21 +40,12 @@ use Rattle.survey.specs.Survey.{bookOf}
 use Rattle.survey.proofs.Locked.{at-most-one}
 use Rattle.excel97.proofs.Settled.{xor-reported, rc4-reported, has-opened}
 use Rattle.key_sizes.specs.KeySizes.{OfAnyRun}
+use Rattle.key_sizes.proofs.Passed.{behind, bof, in-order, first-found}
 use Rattle.key_sizes.proofs.Scanned.{seen-there, seen-not, looked}
 
--- where no question of a table has a "no", none behind has
-behind : (n : ℕ) (qs : List Question) → asked qs ≡ none → asked (drop n qs) ≡ none
-behind zero qs e = e
-behind (suc n) [] e = e
-behind (suc n) (q ∷ qs) e = behind n qs (rest-yes q qs e)
-
-second-true : (t u : Bool) → t ≡ false → (t || u) ≡ true → u ≡ true
+pub second-true : (t u : Bool) → t ≡ false → (t || u) ≡ true → u ≡ true
 second-true true u e g = let z : true ≡ false = e in impossible (cc)
 second-true false u e g = g
-
-both-true : (t u : Bool) → (t && u) ≡ true → (t ≡ true) × (u ≡ true)
-both-true true u e = (refl, e)
-both-true false u e = let z : false ≡ true = e in impossible (cc)
 
 -- the FILEPASS body of a CryptoAPI book, past question 23: what Look reads of it
 pub record CryptoApiBody (body : List ℕ) : Type 0 where
@@ -68,7 +59,7 @@ fitting k e =
     same-or k 0
     (λ z. sym (bits-zero k z) ∙ ap Bits (sym (taken 40 k (eq-eqb k 0 z))))
     (λ z.
-    let in-range = both-true (within 40 128 k) (eqb (k % 8) 0) (second-true (eqb k 0) (within 40 128 k && eqb (k % 8) 0) (ne-eqb k 0 z) e) .0 in
+    let in-range = and-left (within 40 128 k) (eqb (k % 8) 0) (second-true (eqb k 0) (within 40 128 k && eqb (k % 8) 0) (ne-eqb k 0 z) e) in
     let most = within-to 40 128 k in-range in
     sym (bits-stated k z (omega arith)) ∙ ap Bits (sym (left 40 k (ne-eqb k 0 z))))
 
@@ -124,7 +115,8 @@ module _ (body : List ℕ) (e : none ≡ asked (lock body)) (one : typeOf body �
   pub cryptoapi-body : CryptoApiBody body
   unfolding le32
   cryptoapi-body =
-      let family = both-true (within 2 4 (majorOf structure)) (eqb (minorOf structure) 2) is-cryptoapi in
+      let major-fits = and-left (within 2 4 (majorOf structure)) (eqb (minorOf structure) 2) is-cryptoapi in
+      let minor-fits = and-right (within 2 4 (majorOf structure)) (eqb (minorOf structure) 2) is-cryptoapi in
       let l = long in
       record {
         versioned =
@@ -132,12 +124,12 @@ module _ (body : List ℕ) (e : none ≡ asked (lock body)) (one : typeOf body �
               type = typeOf body;
               typed = sym (le16-value body 0 (typeOf body) (omega arith) refl);
               not-xor = λ z. not-both (typeOf body) one z;
-              least = within-from 2 4 (majorOf structure) (family .0);
-              most = within-to 2 4 (majorOf structure) (family .0);
+              least = within-from 2 4 (majorOf structure) major-fits;
+              most = within-to 2 4 (majorOf structure) major-fits;
               major-there = sym (le16-value body 2 (majorOf structure) (omega arith) (rw (structure-byte 0, structure-byte 1)));
               minor-there =
                   sym (le16-value body 4 (minorOf structure) (omega arith) (rw (structure-byte 2, structure-byte 3)))
-                  ∙ ap two.Value (eqb-true (minorOf structure) 2 (family .1));
+                  ∙ ap two.Value (eqb-true (minorOf structure) 2 minor-fits);
             };
         stated =
             sym
@@ -220,26 +212,6 @@ module _ (s : List ℕ) (passed : none ≡ asked (lock (filepassBody s))) (is : 
 
   -- and what Look tells of it
   module _ (walked : asked (book s) ≡ none) where
-    bof : startsBof (walk s .records) ≡ true
-    unfolding book inOrder locked
-    bof = first-yes _ (drop 2 (book s)) (behind 1 (book s) walked)
-
-    in-order : otherId (walk s .records) ≡ none
-    unfolding book inOrder locked
-    in-order = go (otherId (walk s .records)) (first-yes _ (drop 4 (book s)) (behind 3 (book s) walked))
-      where
-        go : (o : Option ℕ) → not (isSome o) ≡ true → o ≡ none
-        go none g = refl
-        go (some id) g = let z : false ≡ true = g in impossible (cc)
-
-    found : (r : BiffRecord) × (filepass (walk s .records) ≡ some r)
-    unfolding book inOrder locked
-    found = go (filepass (walk s .records)) refl (first-yes _ (drop 3 (book s)) (behind 2 (book s) walked))
-      where
-        go : (o : Option BiffRecord) → filepass (walk s .records) ≡ o → isSome o ≡ true → (r : BiffRecord) × (filepass (walk s .records) ≡ some r)
-        go none f g = let z : false ≡ true = g in impossible (cc)
-        go (some r) f g = (r, f)
-
     module _ (r : BiffRecord) (f : filepass (walk s .records) ≡ some r) where
       -- how much of the body Look reads
       abbrev n : ℕ
@@ -251,7 +223,7 @@ module _ (s : List ℕ) (passed : none ≡ asked (lock (filepassBody s))) (is : 
 
       size-read : r .at + 4 ≤ 1048576 → reported (look s) ≡ factsOf (take n its-body) .«key_size»
       size-read h =
-          ap reported (sym (look-found s _ (Filepass (r .at + 4) (r .len)) (seen-there s 1048576 r h ∙ sym (looked s r bof f in-order)) refl))
+          ap reported (sym (look-found s _ (Filepass (r .at + 4) (r .len)) (seen-there s 1048576 r h ∙ sym (looked s r (bof s walked) f (in-order s walked))) refl))
           ∙ ap (λ (b : List ℕ). factsOf b .«key_size») (part-cut s 1048576 (r .at + 4) (r .len) ∙ ap (take n) (sym body-is))
 
       size-same : r .at + 38 ≤ 1048576 → reported (look s) ≡ Bits (report s .«key_bits»)
@@ -261,7 +233,7 @@ module _ (s : List ℕ) (passed : none ≡ asked (lock (filepassBody s))) (is : 
       size-none h =
           either (r .at + 4) 1048576
           (λ k. size-read k ∙ cut-none its-body its-fields n (omega arith))
-          (λ k. ap reported (sym (look-found s Unknown Unreadable (seen-not s 1048576 r k ∙ sym (looked s r bof f in-order)) refl)))
+          (λ k. ap reported (sym (look-found s Unknown Unreadable (seen-not s 1048576 r k ∙ sym (looked s r (bof s walked) f (in-order s walked))) refl)))
 
       size-only : reported (look s) ≡ Bits (report s .«key_bits») → r .at + 38 ≤ 1048576
       size-only g =
@@ -277,7 +249,7 @@ same-key-size stream password scratch output verdict answer scratch′ output′
     let past-book = passed .0 in
     let past-lock = passed .1 in
     let is : report stream .lock ≡ CryptoApi = ap (λ (r : Report). r .lock) (sym (h .told)) ∙ c in
-    let r = found stream (sym past-lock) is past-book in
+    let r = first-found stream past-book in
     let bits : told .«key_bits» ≡ report stream .«key_bits» = ap (λ (r : Report). r .«key_bits») (h .told) in
     record {
       first = r .0;

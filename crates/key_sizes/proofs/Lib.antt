@@ -1,2 +1,3 @@
 pub mod KeySizes
+pub mod Passed
 pub mod Scanned
