@@ -13,7 +13,7 @@ use Rattle.binary_office.proofs.same_bytes.Statement.{statement}
 use Rattle.binary_office.proofs.same_bytes.Tie as tie
 
 abbrev Inv-loop : tie.InvT-loop
-Inv-loop a b i₀ i = (length a ≡ length b) × (i ≤ length a) × ((j : ℕ) → j < i → getD a j 0 ≡ getD b j 0)
+Inv-loop a b i₀ i = (length a ≡ length b) × ((j : ℕ) → j < i → getD a j 0 ≡ getD b j 0) × (i ≤ length a)
 
 abbrev μ-loop : tie.MeasureT-loop
 μ-loop a b i₀ i = length a - i
@@ -21,10 +21,11 @@ abbrev μ-loop : tie.MeasureT-loop
 returns : tie.Need-returns Inv-loop μ-loop
 returns c =
     let args = c .before .args in
-    sym (other-bytes (args .a .now) (args .b .now) (λ e. c .if1 .taken (ap length e)))
+    let other = c .if1 .taken in
+    sym (other-bytes (args .a .now) (args .b .now) (λ e. let lengths = ap length e in omega arith))
 
 loop-holds : tie.Need-loop-holds Inv-loop μ-loop
-loop-holds c = (c .if1 .left, search needs, none-yet)
+loop-holds c = let left = c .if1 .left in (omega arith, none-yet, search needs)
   where
     none-yet : (j : ℕ) → j < 0 → getD (c .before .args .a .now) j 0 ≡ getD (c .before .args .b .now) j 0
     none-yet j h = absurd (omega arith)
@@ -41,8 +42,8 @@ loop-again c =
     let at-loop = c .before .before .before .before in
     let args = at-loop .before .before .args in (
       at-loop .loop .inv .0,
+      one-more (args .a .now) (args .b .now) (at-loop .loop .i) (at-loop .loop .inv .1) (c .if2 .left),
       search needs,
-      one-more (args .a .now) (args .b .now) (at-loop .loop .i) (at-loop .loop .inv .2) (c .if2 .left),
     )
 
 returns-2 : tie.Need-returns-2 Inv-loop μ-loop
@@ -58,7 +59,7 @@ returns-3 c =
     let all : at-loop .loop .i ≡ length (args .a .now) = search needs in
     sym
     (equal-bytes (args .a .now) (args .b .now)
-    (ext-getD 0 (args .a .now) (args .b .now) (at-loop .loop .inv .0) (λ j h. at-loop .loop .inv .2 j (omega arith))))
+    (ext-getD 0 (args .a .now) (args .b .now) (at-loop .loop .inv .0) (λ j h. at-loop .loop .inv .1 j (omega arith))))
 
 pub same-bytes-spec : {M : Type 1} → statement M
 same-bytes-spec =
