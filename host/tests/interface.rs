@@ -238,7 +238,7 @@ fn header_rattle_and_rust_declare_the_same() {
     assert_eq!(rattle[8].parameters.len(), 13);
     assert_eq!(header_functions(), rattle);
     assert_eq!(rust_functions("src/ffi.rs"), rattle);
-    assert_eq!(rust_functions("tests/common/bare.rs")[..], rattle[2..]);
+    assert_eq!(rust_functions("tests/common/bare.rs")[..], rattle[1..]);
 }
 
 #[test]

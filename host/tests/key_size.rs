@@ -1,9 +1,9 @@
-//! The key size that a look tells: every case of it, what follows for Same lock, and that it is the one
-//! that an opening tells, as far as a look reads.
+//! The key size that a look tells: every case of it, that Same lock goes by what is stated, and that it
+//! is the one that an opening tells, as far as a look reads.
 
 mod common;
 
-use common::book::{Book, Kind, BOF, CLEAR, EOF, FILEPASS};
+use common::book::{clear_front, Book, Kind, BOF, EOF, FILEPASS};
 use common::guarded::Guarded;
 use sheet::{Facts, Lock, Refusal, Report, Verdict, SCRATCH_LEN};
 
@@ -136,14 +136,13 @@ fn a_key_size_that_is_cut_is_none() {
 }
 
 #[test]
-fn key_sizes_0_and_40_are_the_same_lock() {
+fn key_sizes_0_and_40_are_different_locks() {
     let with = |stated: u32, major: u16, kind: u16| {
         let mut stream = small(40, stated).locked;
         stream[8..10].copy_from_slice(&kind.to_le_bytes());
         stream[10..12].copy_from_slice(&major.to_le_bytes());
         stream
     };
-    let cut = |stated: u32| with(stated, 4, 1)[..8 + 33].to_vec();
     let same = |a: &[u8], b: &[u8]| {
         let (a, b) = (Guarded::with(a), Guarded::with(b));
         let answer = sheet::same_lock(a.get(), b.get());
@@ -152,44 +151,40 @@ fn key_sizes_0_and_40_are_the_same_lock() {
         b.check_untouched();
         answer
     };
-    for major in 2..=4 {
-        for other in 2..=4 {
-            let (zero, forty) = (with(0, major, 1), with(40, other, 1));
-            assert_eq!(same(&zero, &forty), major == other, "{major}.2 {other}.2");
-            assert_eq!(same(&zero, &with(0, other, 1)), major == other);
+    // Whatever the version, and whatever the type other than 0, of which a look says the same.
+    for major in 2..=5 {
+        for kind in [1, 2, 0xFFFF] {
+            let (zero, forty) = (with(0, major, kind), with(40, major, kind));
+            assert_eq!(look(&zero), look(&forty), "{major} {kind}");
+            assert!(!same(&zero, &forty), "{major} {kind}");
+            assert!(same(&zero, &with(0, major, kind)), "{major} {kind}");
+            assert!(same(&forty, &with(40, major, kind)), "{major} {kind}");
         }
     }
-    // Types other than 0 are not told apart.
-    for kind in [1, 2, 0xFFFF] {
-        assert!(same(&with(0, 4, kind), &with(40, 4, 1)), "{kind}");
-        assert!(!same(&with(0, 4, kind), &with(40, 4, 0)), "{kind}");
+    // Other versions and other types are other locks, with the same key size too.
+    for stated in [0, 40] {
+        assert!(!same(&with(stated, 2, 1), &with(stated, 3, 1)), "{stated}");
+        assert!(!same(&with(stated, 4, 1), &with(stated, 4, 2)), "{stated}");
+        assert!(!same(&with(stated, 4, 1), &with(stated, 4, 0)), "{stated}");
     }
-    // A key size of 0, and others; and none, above 4,096 or cut.
-    for stated in [1, 39, 41, 48, 128, 4096, 4097, u32::MAX] {
-        assert!(!same(&with(0, 4, 1), &with(stated, 4, 1)), "{stated}");
+    // Key sizes of which a look reports none are told apart too.
+    let sizes = [0, 1, 39, 40, 41, 48, 128, 4096, 4097, 1 << 24, u32::MAX];
+    for a in sizes {
+        for b in sizes {
+            let (first, second) = (with(a, 4, 1), with(b, 4, 1));
+            assert_eq!(same(&first, &second), a == b, "{a} {b}");
+            // The streams end before the last byte of the key size.
+            let end = 8 + KEY_SIZE + 3;
+            let there = |size: u32| size & 0xFF_FFFF;
+            let alike = there(a) == there(b);
+            assert_eq!(same(&first[..end], &second[..end]), alike, "{a} {b}");
+            assert!(!same(&first[..end], &second), "{a} {b}");
+        }
     }
-    for stated in [0, 40, 4097] {
-        assert!(!same(&with(0, 4, 1), &cut(stated)), "{stated}");
-        assert!(same(&cut(stated), &with(4097, 4, 1)), "{stated}");
-    }
-    // Versions without a key size are not told apart by what stands in its place.
-    assert!(same(&with(0, 5, 1), &with(40, 5, 1)));
-    assert!(!same(&with(0, 5, 1), &with(0, 4, 1)));
 }
 
 #[test]
 fn a_look_tells_the_key_size_of_an_opening_up_to_its_last_byte() {
-    // BOF and clear records of so many bytes in all.
-    let filled = |len: usize| {
-        let mut records = vec![(BOF, Vec::new())];
-        let mut left = len - 4;
-        while left > 0 {
-            let record = if left <= 60_000 { left } else { 50_000 };
-            records.push((CLEAR, vec![0x2F; record - 4]));
-            left -= record;
-        }
-        records
-    };
     // The offset of the lock's header by what a look still reads: the key size, all but its last byte and
     // less, the version, the type, the header, a part of it, nothing.
     for (behind, told) in [
@@ -206,7 +201,7 @@ fn a_look_tells_the_key_size_of_an_opening_up_to_its_last_byte() {
         (1, Verdict::Unknown),
         (0, Verdict::Unknown),
     ] {
-        let before = filled(LOOK_LEN - behind);
+        let before = clear_front(LOOK_LEN - behind);
         for (bits, stated) in [(40, 0), (40, 40), (128, 128)] {
             let book = book(bits, stated, &before);
             assert_eq!(book.headers[before.len()], LOOK_LEN - behind);

@@ -3,6 +3,8 @@
 use sheet::{Choice, SCRATCH_LEN};
 
 extern "C" {
+    pub fn sheet_same_lock(a: *const u8, a_len: usize, b: *const u8, b_len: usize) -> bool;
+
     pub fn sheet_record(
         stream: *const u8,
         stream_len: usize,

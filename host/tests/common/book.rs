@@ -181,12 +181,22 @@ pub struct Book {
 impl Book {
     /// Locks records, of which the first FILEPASS gets its body here.
     pub fn new(kind: Kind, password: &'static str, records: &[(u16, Vec<u8>)]) -> Book {
+        Book::with_body(kind, password, kind.filepass(password), records)
+    }
+
+    /// The same with a FILEPASS body that was made for the password, and for the salt of the others.
+    pub fn with_body(
+        kind: Kind,
+        password: &'static str,
+        body: Vec<u8>,
+        records: &[(u16, Vec<u8>)],
+    ) -> Book {
         let mut records = records.to_vec();
         let first = records
             .iter()
             .position(|(id, _)| *id == FILEPASS)
             .expect("a FILEPASS record");
-        records[first].1 = kind.filepass(password);
+        records[first].1 = body;
         let (mut joined, mut plain, mut headers) = (Vec::new(), Vec::new(), Vec::new());
         for (k, (id, body)) in records.iter().enumerate() {
             headers.push(joined.len());
@@ -381,6 +391,18 @@ impl Book {
 pub fn book(kind: Kind, behind: &[(u16, Vec<u8>)]) -> Book {
     let front = [(BOF, vec![0, 6, 5, 0]), (FILEPASS, vec![])];
     Book::new(kind, kind.password(), &[&front, behind].concat())
+}
+
+/// BOF and records whose bodies are clear, of so many bytes in all: 4, or 8 or more.
+pub fn clear_front(len: usize) -> Vec<(u16, Vec<u8>)> {
+    let mut records = vec![(BOF, Vec::new())];
+    let mut left = len - 4;
+    while left > 0 {
+        let record = if left <= 60_000 { left } else { 50_000 };
+        records.push((CLEAR, vec![0x2F; record - 4]));
+        left -= record;
+    }
+    records
 }
 
 /// The bytes of these books before the other records: two headers, BOF's body, and the lock.

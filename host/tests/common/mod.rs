@@ -5,6 +5,7 @@ pub mod bare;
 pub mod bench;
 pub mod book;
 pub mod digest;
+pub mod fenced;
 pub mod folder;
 pub mod guarded;
 pub mod installed;
