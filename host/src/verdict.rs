@@ -1,4 +1,4 @@
-//! Look: whether a workbook is locked, and how.
+//! Look: whether a workbook is locked, and how; and whether two have the same lock.
 
 use crate::ffi;
 use crate::open::Lock;
@@ -82,14 +82,58 @@ pub fn look(stream: &[u8]) -> Verdict {
     }
 }
 
-/// Whether two workbooks have the same lock, as far as [`look`] shows: both are locked, and XOR mark,
-/// version and key size agree. Locks of one version that state key sizes of 0 and of 40 are the same.
+/// Whether two workbooks have the same lock, by the first 1,048,576 bytes of each at most: [`look`] says
+/// [`Verdict::Yes`] of both, and the bodies of their FILEPASS records are equal, byte for byte. Of a
+/// body, all its bytes count that are there within those first bytes, whatever length its header
+/// states. Where the bodies are equal, so are the [`Facts`]. Locks with different salts are different,
+/// and so are those that state key sizes of 0 and of 40.
 ///
 /// ```
+/// // BOF, then FILEPASS with an XOR lock.
 /// let xor = [0x09, 0x08, 0, 0, 0x2F, 0, 6, 0, 0, 0, 0x15, 0xB9, 0xC8, 0xCE];
 /// assert!(sheet::same_lock(&xor, &xor));
 /// assert!(!sheet::same_lock(&xor, b"no workbook"));
+/// // The lock alone counts, wherever it is and whatever comes after it.
+/// let other = [&xor[..4], &[0xE1, 0, 1, 0, 7], &xor[4..], &[0x42, 0, 0, 0]].concat();
+/// assert!(sheet::same_lock(&xor, &other));
+/// // Another byte in the lock.
+/// let mut other = xor;
+/// other[13] ^= 1;
+/// assert!(!sheet::same_lock(&xor, &other));
+/// // What is there of a body counts, and not the length that is stated.
+/// let mut longer = xor;
+/// longer[6] = 7;
+/// assert!(sheet::same_lock(&xor, &longer));
 /// ```
+///
+/// # Offering the last password again
+///
+/// The password that opened one workbook is the one to offer for the next that has the same lock. Two
+/// streams with the same lock are proved to take the same passwords: if
+/// [`forecast`](crate::forecast()) refuses neither, and enough scratch and output is lent,
+/// [`open`](crate::open()) with any one password refuses both by
+/// [`WrongPassword`](crate::Refusal::WrongPassword), or neither.
+///
+/// ```
+/// # fn main() -> std::io::Result<()> {
+/// let last = std::fs::read("examples/calibres.bin")?;
+/// let password = "Hebungswinkel 50°".as_bytes();
+/// assert!(sheet::open_to_vec(&last, password).is_ok());
+///
+/// // The same workbook without its last record.
+/// let next = &last[..3431];
+/// assert!(sheet::same_lock(&last, next));
+/// assert!(sheet::forecast(next).is_ok());
+/// assert!(sheet::open_to_vec(next, password).is_ok());
+/// # Ok(())
+/// # }
+/// ```
+///
+/// This holds if the FILEPASS body of at least one of the two ends within its first 1,048,576 bytes.
+/// Where both go on after that, the bytes that follow are not compared, and the passwords may differ.
+///
+/// `false` says nothing about the passwords: except under XOR, workbooks that were locked with the
+/// same password usually have different salts, and so different locks.
 #[must_use]
 pub fn same_lock(a: &[u8], b: &[u8]) -> bool {
     // SAFETY: a slice's pointer points to `len` bytes; nothing is written.
