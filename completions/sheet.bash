@@ -10,12 +10,12 @@ _sheet() {
         before=$((before - 1))
     fi
     if [ "$COMP_CWORD" = 1 ]; then
-        choices='look list directory forecast open seal refusals -h --help -V --version'
+        choices='look same-lock list directory forecast open seal refusals -h --help -V --version'
         mapfile -t COMPREPLY < <(compgen -W "$choices" -- "$word")
         return
     fi
     case ${COMP_WORDS[1]} in
-    look) options='-q --quiet' ;;
+    look | same-lock) options='-q --quiet' ;;
     list | directory | forecast) ;;
     open) options='-o --output --password-file' ;;
     seal) options='-o --output --password-file --lock --key-size --major' ;;

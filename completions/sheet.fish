@@ -2,6 +2,7 @@
 
 complete -c sheet -f
 complete -c sheet -n __fish_use_subcommand -a look -d 'Show whether the workbook is locked, and how'
+complete -c sheet -n __fish_use_subcommand -a same-lock -d 'Show whether two workbooks have the same lock'
 complete -c sheet -n __fish_use_subcommand -a list -d 'List its records'
 complete -c sheet -n __fish_use_subcommand -a directory -d 'List its sheets and where they start'
 complete -c sheet -n __fish_use_subcommand -a forecast -d 'Show what opening it will take'
@@ -11,8 +12,8 @@ complete -c sheet -n __fish_use_subcommand -a refusals -d 'List what each number
 complete -c sheet -n __fish_use_subcommand -s h -l help -d 'Print the help'
 complete -c sheet -n __fish_use_subcommand -s V -l version -d 'Print the version'
 
-complete -c sheet -n '__fish_seen_subcommand_from look list directory forecast open seal' -F
-complete -c sheet -n '__fish_seen_subcommand_from look' -s q -l quiet -d 'Print nothing, and answer by the exit status'
+complete -c sheet -n '__fish_seen_subcommand_from look same-lock list directory forecast open seal' -F
+complete -c sheet -n '__fish_seen_subcommand_from look same-lock' -s q -l quiet -d 'Print nothing, and answer by the exit status'
 complete -c sheet -n '__fish_seen_subcommand_from open seal' -s o -l output -r -F -d 'Write to this file'
 complete -c sheet -n '__fish_seen_subcommand_from open seal' -l password-file -r -F -d 'Take the password from this file'
 complete -c sheet -n '__fish_seen_subcommand_from seal' -l lock -x -a 'cryptoapi office97 xor' -d 'Use this lock'

@@ -1,5 +1,6 @@
 //! The command `sheet`: looks at, lists, opens and seals protected Excel 97-2003 workbook streams,
-//! finds their sheets, and shows what opening them will take. `sheet --help` says how.
+//! compares their locks, finds their sheets, and shows what opening them will take. `sheet --help` says
+//! how.
 
 use std::process::ExitCode;
 

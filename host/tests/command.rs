@@ -14,8 +14,9 @@ use common::process::{run, Process};
 use common::walk::walk;
 
 /// Every command that reads a stream.
-const COMMANDS: [&str; 6] = [
+const COMMANDS: [&str; 7] = [
     "look",
+    "same-lock calibres.bin",
     "list",
     "directory",
     "forecast",
@@ -681,7 +682,7 @@ fn mistakes_in_the_arguments() {
     for (line, words) in [
         (
             "",
-            "look, list, directory, forecast, open, seal or refusals",
+            "look, same-lock, list, directory, forecast, open, seal or refusals",
         ),
         ("opne calibres.bin", "'opne'"),
         ("directory calibres.bin 0", "'0'"),
@@ -696,6 +697,10 @@ fn mistakes_in_the_arguments() {
         ("open calibres.bin -o plain -pGeheim", password),
         ("open calibres.bin Geheim -o plain", password),
         ("look calibres.bin other", "'other'"),
+        ("same-lock calibres.bin", "names of two files"),
+        ("same-lock calibres.bin other third", "'third'"),
+        ("same-lock calibres.bin other --password Geheim", password),
+        ("list --quiet calibres.bin", "'sheet same-lock' alone"),
     ] {
         let ran = bench.run(line);
         ran.failed(2, &["sheet: ", words, "sheet --help"]);
@@ -712,6 +717,7 @@ fn help_and_version() {
         assert_eq!((ran.status, &ran.err[..]), (Some(0), ""));
         for words in [
             "sheet look FILE",
+            "sheet same-lock A B",
             "sheet list FILE",
             "sheet directory FILE",
             "sheet forecast FILE",

@@ -15,8 +15,9 @@ use common::bench::{Bench, Ran, PASSWORD};
 use common::book::{joined, Book, Kind, BOF, FILEPASS, ROW};
 use common::process;
 
-/// The commands that read a whole stream.
-const WHOLE: [&str; 5] = [
+/// The commands for which a file of another kind is an error.
+const STRICT: [&str; 6] = [
+    "same-lock calibres.bin",
     "list",
     "directory",
     "forecast",
@@ -48,7 +49,7 @@ fn other_kinds_of_files_are_named_before_anything_else() {
         ),
     ] {
         bench.write("file", bytes);
-        for command in WHOLE {
+        for command in STRICT {
             let ran = bench.run_with(&format!("{command} file"), PASSWORD);
             ran.failed(2, &["sheet: file: this ", kind]);
             assert_eq!((ran.err.lines().count(), &ran.out[..]), (1, ""));
@@ -390,6 +391,7 @@ fn a_closed_standard_output_is_an_error() {
         "--version",
         "refusals",
         "look calibres.bin",
+        "same-lock calibres.bin calibres.bin",
         "list calibres.bin",
         "directory calibres.bin",
         "forecast calibres.bin",
@@ -404,8 +406,10 @@ fn a_closed_standard_output_is_an_error() {
     closed(&bench, "look - <&-").failed(2, &["sheet: standard input: it is closed"]);
     let ran = closed(&bench, "open calibres.bin -o out --password-file - <&-");
     ran.failed(2, &["sheet: password file standard input: it is closed"]);
-    // A quiet look prints nothing, so that it needs no standard output.
+    // A quiet look prints nothing, so that it needs no standard output, nor does a quiet comparison.
     assert_eq!(closed(&bench, "look -q calibres.bin >&-").status, Some(0));
+    let line = "same-lock -q calibres.bin calibres.bin >&-";
+    assert_eq!(closed(&bench, line).status, Some(0));
     assert_eq!(closed(&bench, "look calibres.bin 2>&-").status, Some(0));
 }
 

@@ -118,6 +118,7 @@ fn a_full_disk_is_told() {
         "open calibres.bin -o -",
         "seal sheet -o - --lock cryptoapi",
         "look calibres.bin",
+        "same-lock calibres.bin calibres.bin",
         "list calibres.bin",
         "directory calibres.bin",
         "forecast calibres.bin",
@@ -196,6 +197,10 @@ fn no_permission_is_told() {
     for (line, words) in [
         ("look secret", &["sheet: secret: ", "no permission to read"]),
         (
+            "same-lock calibres.bin secret",
+            &["sheet: secret: ", "no permission to read"],
+        ),
+        (
             "open calibres.bin -o kept",
             &["sheet: kept: ", "no permission to write"],
         ),
@@ -241,6 +246,7 @@ fn no_permission_is_told() {
 fn a_reader_that_has_enough_is_no_error_worth_words() {
     let bench = Bench::new();
     for line in [
+        "same-lock calibres.bin calibres.bin",
         "list calibres.bin",
         "directory calibres.bin",
         "forecast calibres.bin",

@@ -194,7 +194,7 @@ fn zsh_completes_what_the_help_has() {
 
     // The lists, and the commands that use them.
     let mut lists = BTreeMap::new();
-    for name in ["file", "output", "sealing"] {
+    for name in ["file", "quiet", "output", "sealing"] {
         let (_, list) = rest
             .split_once(&format!("\n{name}=("))
             .or_else(|| {

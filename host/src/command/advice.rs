@@ -2,6 +2,8 @@
 
 use sheet::{Record, Refusal};
 
+use super::input::LOOK_LEN;
+
 /// The ids of FILEPASS and WriteProtect records.
 const FILEPASS: u16 = 0x002F;
 const WRITE_PROTECT: u16 = 0x0086;
@@ -16,6 +18,12 @@ const BIFF5_FILEPASS_LEN: usize = 4;
 
 /// What passwords XOR has.
 pub const XOR_PASSWORDS: &str = "under XOR a password has 1 to 15 characters, none beyond U+00FF";
+
+/// What is said where the locks of two streams are the same as far as they are compared, and both go
+/// on after that.
+pub const LOCKS_GO_ON: &str =
+    "both FILEPASS records go on after the first mebibyte, which is all that is compared: their \
+     locks may differ there, and so may their passwords";
 
 /// What is said beside a refusal to open a stream.
 pub fn of_refusal(refusal: &Refusal, stream: &[u8]) -> Vec<String> {
@@ -54,6 +62,23 @@ fn is_like_biff5(stream: &[u8]) -> bool {
         || filepass.is_some_and(|record| record.len == BIFF5_FILEPASS_LEN)
 }
 
+/// Whether the body of a stream's first FILEPASS record goes on after the bytes that a look reads.
+pub fn lock_goes_on(stream: &[u8]) -> bool {
+    let end = sheet::records(stream).find_map(|step| match step {
+        Ok(record) => (record.id == FILEPASS).then(|| record.body().end),
+        Err(fault) => filepass_end(stream, fault.at),
+    });
+    stream.len() >= LOOK_LEN && end.is_some_and(|end| end > LOOK_LEN)
+}
+
+/// Where the body of the FILEPASS record at an offset ends, by the length that its header states, if
+/// the header is there and is that of one.
+fn filepass_end(stream: &[u8], at: usize) -> Option<usize> {
+    let header: &[u8; 4] = stream[at..].first_chunk()?;
+    let [id, len] = [[header[0], header[1]], [header[2], header[3]]].map(u16::from_le_bytes);
+    (id == FILEPASS).then_some(at + header.len() + usize::from(len))
+}
+
 /// What a look says no to a stream for, and the FILEPASS record that comes after it, within the bytes
 /// that are given.
 pub struct Hidden {
@@ -77,9 +102,8 @@ impl Hidden {
                 }
                 // A body may be cut off where the bytes that are given end.
                 (Err(fault), Some(first)) => {
-                    let header: &[u8; 4] = stream[fault.at..].first_chunk()?;
-                    let [low, high, ..] = *header;
-                    return (u16::from_le_bytes([low, high]) == FILEPASS).then_some(Hidden {
+                    filepass_end(stream, fault.at)?;
+                    return Some(Hidden {
                         first,
                         filepass: fault.at,
                     });
@@ -158,6 +182,38 @@ mod tests {
             // Its header has 4 bytes, from offset 12.
             assert_eq!(hidden.is_some(), len >= 16, "{len}");
         }
+    }
+
+    #[test]
+    fn a_lock_that_goes_on_after_a_look_is_found() {
+        // BOF, a clear record up to so many bytes before where a look ends, and a lock.
+        let stream = |before: usize, len: usize| {
+            let mut records = record(BOF.0, BOF.1);
+            while records.len() < LOOK_LEN - before {
+                let left = LOOK_LEN - before - records.len();
+                let body = if left > 60_000 { 50_000 } else { left } - 4;
+                records.extend(record(0x00E1, &vec![7; body]));
+            }
+            records.extend(record(FILEPASS, &vec![1; len]));
+            records
+        };
+        for (before, len, goes_on) in [
+            (10, 5, false),
+            (10, 6, false),
+            (10, 7, true),
+            (10, 65_535, true),
+            (4, 0, false),
+            (4, 1, true),
+            // The header itself is cut there.
+            (3, 1, false),
+        ] {
+            let whole = stream(before, len);
+            let read = &whole[..whole.len().min(LOOK_LEN)];
+            assert_eq!(lock_goes_on(read), goes_on, "{before} {len}");
+            // What is cut off by the end of its file does not go on.
+            assert!(!lock_goes_on(&whole[..LOOK_LEN - 1]), "{before} {len}");
+        }
+        assert!(!lock_goes_on(&[]));
     }
 
     #[test]

@@ -18,6 +18,11 @@ pub enum Order {
         /// Print nothing, and say it by the exit status.
         quiet: bool,
     },
+    SameLock {
+        files: [OsString; 2],
+        /// As for a look.
+        quiet: bool,
+    },
     List {
         file: OsString,
     },
@@ -66,6 +71,12 @@ const NO_PASSWORD: &str = "a password is not taken as an argument, which other u
     process list and the shell keeps in its history: use --password-file, SHEET_PASSWORD or the \
     prompt";
 
+/// Said where names of files are missing.
+const EMPTY_NAME: &str = "the name of a file is empty";
+const TWO_FILES: &str =
+    "'sheet same-lock' needs the names of two files, of which one may be - for \
+    standard input";
+
 /// What the options need.
 const OUT: &str = "the name of the file to write";
 const LOCKS: &str = "the name of a lock, cryptoapi, office97 or xor";
@@ -90,34 +101,37 @@ pub fn parse(arguments: impl Iterator<Item = OsString>) -> Result<Order, Failure
     let mut rest = arguments;
     let Some(command) = rest.next() else {
         return Err(usage(
-            "say what to do: sheet look, list, directory, forecast, open, seal or refusals",
+            "say what to do: sheet look, same-lock, list, directory, forecast, open, seal or refusals",
         ));
     };
     let given = match command.to_str() {
         Some("--help" | "-h" | "help") => return Ok(Order::Help),
         Some("--version" | "-V") => return Ok(Order::Version),
-        Some("look" | "list" | "directory" | "forecast" | "open" | "seal" | "refusals") => {
-            Given::read(rest)?
-        }
+        Some(
+            "look" | "same-lock" | "list" | "directory" | "forecast" | "open" | "seal" | "refusals",
+        ) => Given::read(rest)?,
         _ => {
             return Err(usage(&format!(
-            "there is no command '{}': the commands are look, list, directory, forecast, open, \
-                 seal and refusals",
-            shown(&command)
-        )))
+                "there is no command '{}': the commands are look, same-lock, list, directory, \
+                 forecast, open, seal and refusals",
+                shown(&command)
+            )))
         }
     };
     if given.help {
         return Ok(Order::Help);
     }
-    if given.quiet && command != "look" {
-        return Err(usage("-q and --quiet are for 'sheet look' alone"));
+    if given.quiet && command != "look" && command != "same-lock" {
+        return Err(usage(
+            "-q and --quiet are for 'sheet look' and 'sheet same-lock' alone",
+        ));
     }
     match command.to_str() {
         Some("look") => Ok(Order::Look {
             file: given.only_file("look")?,
             quiet: given.quiet,
         }),
+        Some("same-lock") => given.same_lock(),
         Some("list") => Ok(Order::List {
             file: given.only_file("list")?,
         }),
@@ -193,6 +207,28 @@ impl Given {
             }
         }
         Ok(given)
+    }
+
+    fn same_lock(self) -> Result<Order, Failure> {
+        self.no_options("same-lock")?;
+        let files = match &self.files[..] {
+            [a, b] if a.is_empty() || b.is_empty() => return Err(usage(EMPTY_NAME)),
+            [a, b] if a == "-" && b == "-" => {
+                return Err(usage("only one of the two files can be standard input"))
+            }
+            [a, b] => [a.clone(), b.clone()],
+            [_, _, third, ..] => {
+                return Err(usage(&format!(
+                    "'{}' is too much: 'sheet same-lock' takes two files",
+                    shown(third)
+                )))
+            }
+            _ => return Err(usage(TWO_FILES)),
+        };
+        Ok(Order::SameLock {
+            files,
+            quiet: self.quiet,
+        })
     }
 
     fn open(self) -> Result<Order, Failure> {
@@ -275,7 +311,7 @@ impl Given {
     /// The one file of a command.
     fn file(&self, command: &str) -> Result<OsString, Failure> {
         match &self.files[..] {
-            [file] if file.is_empty() => Err(usage("the name of the file is empty")),
+            [file] if file.is_empty() => Err(usage(EMPTY_NAME)),
             [file] => Ok(file.clone()),
             [] => Err(usage(&format!(
                 "'sheet {command}' needs the name of a file, or - for standard input"
@@ -387,6 +423,21 @@ mod tests {
         for line in ["look -q a", "look a --quiet", "look --quiet -- a"] {
             assert_eq!(parsed(line), look("a", true), "{line}");
         }
+        let same_lock = |a: &str, b: &str, quiet| {
+            let files = [a.into(), b.into()];
+            Ok(Order::SameLock { files, quiet })
+        };
+        assert_eq!(parsed("same-lock a b"), same_lock("a", "b", false));
+        assert_eq!(parsed("same-lock a a"), same_lock("a", "a", false));
+        assert_eq!(parsed("same-lock - b"), same_lock("-", "b", false));
+        assert_eq!(parsed("same-lock -- a -b"), same_lock("a", "-b", false));
+        for line in [
+            "same-lock -q a -",
+            "same-lock a --quiet -",
+            "same-lock a - -q",
+        ] {
+            assert_eq!(parsed(line), same_lock("a", "-", true), "{line}");
+        }
         assert_eq!(parsed("list -"), Ok(Order::List { file: "-".into() }));
         assert_eq!(parsed("list -- -a"), Ok(Order::List { file: "-a".into() }));
         let directory = |file: &str| Ok(Order::Directory { file: file.into() });
@@ -402,6 +453,7 @@ mod tests {
             "help",
             "open --help",
             "look -h",
+            "same-lock --help",
             "directory --help",
             "forecast --help",
             "seal --help",
@@ -464,16 +516,31 @@ mod tests {
         for (line, word) in [
             (
                 "",
-                "look, list, directory, forecast, open, seal or refusals",
+                "look, same-lock, list, directory, forecast, open, seal or refusals",
             ),
             ("opne a", "'opne'"),
             (
                 "opne a",
-                "look, list, directory, forecast, open, seal and refusals",
+                "look, same-lock, list, directory, forecast, open, seal and refusals",
             ),
             ("look", "name of a file"),
             ("look a b", "'b'"),
             ("look a -o b", "neither -o"),
+            (
+                "same-lock",
+                "'sheet same-lock' needs the names of two files",
+            ),
+            (
+                "same-lock a",
+                "'sheet same-lock' needs the names of two files",
+            ),
+            ("same-lock a b c", "'c' is too much: 'sheet same-lock'"),
+            ("same-lock - -", "only one of the two"),
+            ("same-lock a b -o c", "'sheet same-lock' takes neither -o"),
+            ("same-lock a b --password-file p", "neither -o"),
+            ("same-lock a b --password=x", "not taken as an argument"),
+            ("same-lock a b --lock xor", "for 'sheet seal', and not"),
+            ("same-lock a b --quiet=1", "'--quiet'"),
             ("list --password-file p a", "neither -o"),
             ("directory", "name of a file"),
             ("directory a 1", "'1'"),
@@ -483,8 +550,11 @@ mod tests {
             ("forecast a -o b", "'sheet forecast' takes neither -o"),
             ("forecast --password-file p a", "neither -o"),
             ("refusals 3", "'3'"),
-            ("open -q a -o b", "for 'sheet look' alone"),
-            ("refusals --quiet", "for 'sheet look' alone"),
+            (
+                "open -q a -o b",
+                "for 'sheet look' and 'sheet same-lock' alone",
+            ),
+            ("refusals --quiet", "'sheet same-lock' alone"),
             ("look --quiet=1 a", "'--quiet'"),
             ("open a -o=b", "without ="),
             ("open a -ob -oc", "twice"),

@@ -4,6 +4,8 @@ pub const HELP: &str = "\
 sheet: looks at, lists, opens and seals protected Excel 97-2003 workbooks
 
   sheet look FILE            shows whether the workbook is locked, and how
+  sheet same-lock A B        shows whether two workbooks have the same lock,
+                             and so take the same passwords
   sheet list FILE            lists its records
   sheet directory FILE       lists its sheets and where they start; this takes
                              no password
@@ -19,13 +21,13 @@ sheet: looks at, lists, opens and seals protected Excel 97-2003 workbooks
   sheet --help, -h           prints this
   sheet --version, -V        prints the version
 
-FILE is the Workbook stream of an .xls file, of up to 1 GiB. To take it out of
-the .xls file, with gsf (Debian's package libgsf-bin):
+FILE is the Workbook stream of an .xls file, of up to 1 GiB, as A and B are. To
+take it out of the .xls file, with gsf (Debian's package libgsf-bin):
 
   gsf cat book.xls Workbook > book.bin
 
-A name of - is standard input in place of FILE, and standard output in place
-of OUT. After -- every word is a name.
+A name of - is standard input in place of FILE, or of one of A and B, and
+standard output in place of OUT. After -- every word is a name.
 
 OPTIONS
 
@@ -34,8 +36,8 @@ OPTIONS
   --password-file FILE       where the password is, for open and seal
   --lock, --key-size, --major
                              the lock, for seal
-  -q, --quiet                for look: prints nothing on standard output; the
-                             exit status is the answer
+  -q, --quiet                for look and same-lock: prints nothing on standard
+                             output; the exit status is the answer
 
 LOOK reads the first mebibyte of FILE and no more. 'no' does not always mean
 that the figures are plain: a book that was saved with a password and also as
@@ -44,6 +46,15 @@ that the figures are plain: a book that was saved with a password and also as
 the first mebibyte, a warning on standard error says so, and look --quiet ends
 with 3. forecast reads all of FILE: its refusal 8 means that there is no lock
 anywhere, and 9 that it is such a book.
+
+SAME-LOCK reads the first mebibyte of A and of B and no more. It says yes if
+both are locked and the bodies of their FILEPASS records have the same bytes,
+as far as these are in the first mebibyte. Then the password that opened A is
+the one to try on B: where both can be opened at all, a password passes the
+check of one exactly if it passes that of the other. Only where both records go
+on after the first mebibyte this need not be so, and a warning says it. 'no'
+does not mean that the passwords differ: except under XOR, programs write a new
+salt with each lock, whatever its password is.
 
 THE PASSWORD comes from the first of these that is there:
 
@@ -103,6 +114,9 @@ PRINTED, in columns separated by tabs:
   look    locked: yes, no, or unknown (not a workbook stream, or cut off too
           early to show). For a locked one also, where they are known, lock,
           version, and key size in bits
+  same-lock
+          same lock: yes or no. For no also why: in which of the two look
+          finds no lock, or that both are locked and their records differ
   list    at: the offset of the record; id, hexadecimal; length of its body;
           clear: how many of the body's first bytes are never enciphered. One
           to three zero bytes after the last record are padding, and have no
@@ -126,10 +140,12 @@ PRINTED, in columns separated by tabs:
 
 EXIT STATUS
 
-  0       done; for look, whatever it shows; for look --quiet, locked
+  0       done; for look, whatever it shows; for look --quiet, locked; for
+          same-lock, the same
   1       open, seal, directory or forecast was refused: standard error says
           'refused, NUMBER:' and why, and OUT is not written; or list found a
-          record that can't be read; for look --quiet, not locked
+          record that can't be read; for look --quiet, not locked; for
+          same-lock, not the same
   2       anything else: the arguments, the input, the output, what was typed
           as a password, or no random source; standard error says which, and
           what to try
@@ -139,6 +155,7 @@ EXIT STATUS
 EXAMPLES
 
   sheet look book.bin
+  sheet same-lock last.bin book.bin
   sheet open book.bin -o plain.bin
   sheet seal plain.bin -o sealed.bin --lock cryptoapi
 

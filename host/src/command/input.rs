@@ -14,8 +14,8 @@ use super::standard;
 /// What standard input is called in messages.
 pub const STANDARD: &str = "standard input";
 
-/// The bytes that a look reads at most.
-const LOOK_LEN: usize = 1 << 20;
+/// The bytes that a look reads at most, and of each stream a comparison of locks.
+pub const LOOK_LEN: usize = 1 << 20;
 
 /// What tells one regular file from another: device and inode.
 pub type Identity = (u64, u64);
@@ -81,6 +81,15 @@ impl Input {
             name,
             other,
         })
+    }
+
+    /// The same for a comparison of locks, for which a file that is something else is an error.
+    pub fn read_to_compare(file: &OsStr) -> Result<Input, Failure> {
+        let input = Input::read_for_look(file)?;
+        match &input.other {
+            Some(words) => Err(Failure::at(&input.name, words)),
+            None => Ok(input),
+        }
     }
 }
 

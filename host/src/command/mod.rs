@@ -35,6 +35,10 @@ const LOCKED: u8 = 0;
 const NOT_LOCKED: u8 = 1;
 const NOT_SURE: u8 = 3;
 
+/// The exit statuses of a comparison of locks: 0 and 1.
+const SAME: u8 = 0;
+const NOT_SAME: u8 = 1;
+
 /// Does what the arguments ask and gives the exit status.
 pub fn run(arguments: impl Iterator<Item = OsString>) -> ExitCode {
     interrupt::ignore_file_size_signal();
@@ -48,6 +52,7 @@ fn obey(order: Order) -> Result<ExitCode, Failure> {
     match order {
         Order::Look { file, quiet: true } => return look_quietly(&file),
         Order::Look { file, quiet: false } => look(&file),
+        Order::SameLock { files, quiet } => return same_lock(&files, quiet),
         Order::Help => print(|out| out.write_all(help::HELP.as_bytes())),
         Order::Version => print(|out| writeln!(out, "sheet {}", env!("CARGO_PKG_VERSION"))),
         Order::Refusals => print(write_refusals),
@@ -124,10 +129,15 @@ fn look_quietly(file: &OsString) -> Result<ExitCode, Failure> {
 /// file, or locked all the same.
 fn looked(file: &OsString) -> Result<(Verdict, Option<Hidden>), Failure> {
     let input = Input::read_for_look(file)?;
-    let verdict = sheet::look(&input.stream);
     if let Some(words) = &input.other {
         let _ = writeln!(io::stderr(), "sheet: {}: {words}", input.name);
     }
+    Ok(look_into(&input))
+}
+
+/// The verdict of a stream that is read, with a warning if it is no and a lock follows.
+fn look_into(input: &Input) -> (Verdict, Option<Hidden>) {
+    let verdict = sheet::look(&input.stream);
     let hidden = match verdict {
         Verdict::No => Hidden::in_stream(&input.stream),
         _ => None,
@@ -135,7 +145,7 @@ fn looked(file: &OsString) -> Result<(Verdict, Option<Hidden>), Failure> {
     if let Some(hidden) = &hidden {
         warn(&format!("{}: {}", input.name, hidden.words()));
     }
-    Ok((verdict, hidden))
+    (verdict, hidden)
 }
 
 /// The lines of a verdict: a name, a tab, a value.
@@ -154,6 +164,59 @@ fn write_verdict(out: &mut dyn Write, verdict: Verdict) -> io::Result<()> {
     }
     if let Some(bits) = facts.key_bits {
         writeln!(out, "key size\t{bits}")?;
+    }
+    Ok(())
+}
+
+/// Says whether two workbooks have the same lock, by the exit status and, unless it is to be quiet, in
+/// words. A file that is not a workbook stream is an error here: there is no lock of it to compare.
+fn same_lock(files: &[OsString; 2], quiet: bool) -> Result<ExitCode, Failure> {
+    let [a, b] = files;
+    let [a, b] = [Input::read_to_compare(a)?, Input::read_to_compare(b)?];
+    let same = sheet::same_lock(&a.stream, &b.stream);
+    let reasons = match same {
+        true => Vec::new(),
+        false => why_not_same(&a, &b),
+    };
+    if same && advice::lock_goes_on(&a.stream) && advice::lock_goes_on(&b.stream) {
+        warn(advice::LOCKS_GO_ON);
+    }
+    if !quiet {
+        print(|out| write_same(out, same, &reasons))?;
+    }
+    Ok(ExitCode::from(if same { SAME } else { NOT_SAME }))
+}
+
+/// Why two workbooks do not have the same lock: which of them is not found to be locked or, if both
+/// are, that the locks differ.
+fn why_not_same(a: &Input, b: &Input) -> Vec<String> {
+    let mut reasons = Vec::new();
+    for input in [a, b] {
+        let name = &input.name;
+        match look_into(input).0 {
+            Verdict::Yes(_) => {}
+            Verdict::No => reasons.push(format!("look finds no lock in {name}")),
+            Verdict::Unknown => reasons.push(format!(
+                "look can't tell whether {name} is locked: it is not a workbook stream, or is cut \
+                 off too early"
+            )),
+        }
+    }
+    if reasons.is_empty() {
+        reasons.push(
+            "both are locked, but their FILEPASS records differ: the password of one need not be \
+             that of the other"
+                .to_string(),
+        );
+    }
+    reasons
+}
+
+/// The lines of a comparison of locks: a name, a tab, a value.
+fn write_same(out: &mut dyn Write, same: bool, reasons: &[String]) -> io::Result<()> {
+    writeln!(out, "same lock\t{}", if same { "yes" } else { "no" })?;
+    for reason in reasons {
+        writeln!(out, "why\t{reason}")?;
     }
     Ok(())
 }
