@@ -6,8 +6,8 @@ opened stream's bytes are those it was made from, and the counts that Open repor
 it enciphered); padding is added after both streams once they are made, and is counted by document 02's words (T-05); each refusal is stated here with its
 case, from document 01's list of questions, with the scratch that document 02 asks for (T-06); what is left of the scratch is by document 02's words too: the
 first 64 bytes zero from question 6 on, all others as they were lent. The verdict of Look is computed here, from document 01's words and document 02's (T-03),
-and so is whether a stream and that of the case before have the same lock. The forecast of a stream that is refused by 4 or 6 to 26 is that refusal; else it is
-computed here from the layout of the stream, by document 02's words (T-04, T-05).
+and so is whether a stream and that of the case before have the same lock (T-08). The forecast of a stream that is refused by 4 or 6 to 26 is that refusal; else
+it is computed here from the layout of the stream, by document 02's words (T-04, T-05).
 
 In the data a case is five parts, each after its length of four bytes, the lower first: its name, the password, the stream, and, as parts of no bytes
 whose length alone counts, the scratch and the output. The program lends bytes (offset mod 251) + 1, which are never zero.
@@ -22,38 +22,43 @@ B = record(BOF)
 XOR = Xor()
 NONE = (0, 0, 0, 0, 0)
 SCRATCH = 64  # the least that is enough, and how much of it ends zero
+CAP = 1048576  # Look and Same lock read no more of a stream
 cases, lines, before = [], [], None
 firsts = {}  # for each number that Open returns, the first case: stream, facts and password
 
 
 def look(stream):
-    """The verdict's number and facts: XOR mark, version there, major, minor, key size."""
+    """The verdict's number, its facts (XOR mark, version there, major, minor, key size), and what is there of the FILEPASS body that it is about."""
+    stream, at = stream[:CAP], 0
     if stream[:2] != B[:2]:
-        return 0, NONE
-    at = 0
+        return 0, NONE, None
     while True:
         if len(stream) - at < 4:
-            return 0, NONE
+            return 0, NONE, None
         number, length = struct.unpack_from("<HH", stream, at)
         body = stream[at + 4:at + 4 + length]
         if number == FILEPASS:
-            break
+            return 2, facts_of(body), body
         if number not in SEVEN:
-            return 1, NONE
+            return 1, NONE, None
         if len(body) < length:
-            return 0, NONE
+            return 0, NONE, None
         at += 4 + length
+
+
+def facts_of(body):
+    """The facts of a lock, from what is there of its FILEPASS body."""
     if len(body) < 2:
-        return 2, NONE
+        return NONE
     if body[:2] == b"\0\0":
-        return 2, (1, 0, 0, 0, 0)
+        return 1, 0, 0, 0, 0
     if len(body) < 6:
-        return 2, NONE
+        return NONE
     major, minor = struct.unpack_from("<HH", body, 2)
     if len(body) < 34 or not 2 <= major <= 4 or minor != 2:
-        return 2, (0, 1, major, minor, 0)
+        return 0, 1, major, minor, 0
     size = struct.unpack_from("<I", body, 30)[0] or 40
-    return 2, (0, 1, major, minor, size if size <= 4096 else 0)
+    return 0, 1, major, minor, size if size <= 4096 else 0
 
 
 def counts(stream):
@@ -79,7 +84,8 @@ def case(name, stream, password, number, facts=(), plain=None, scratch=SCRATCH +
     cases.append(b"".join(struct.pack("<I", len(part)) + part for part in (name.encode(), password, stream)) + struct.pack("<II", scratch, output))
     firsts.setdefault(number, (stream, facts, password))
     zeros = SCRATCH if number == 0 or number >= 6 else 0
-    seen = verdict, told = look(stream)
+    # the facts agree, and the FILEPASS bodies are equal, whatever lengths are stated
+    seen = verdict, told, _ = look(stream)
     same, before = verdict == 2 and seen == before, seen
     if foretold is None:
         foretold = (0, counts(stream)) if number in (0, 1, 2, 3, 5, 27) else (number, facts)
@@ -138,7 +144,7 @@ for bits in range(0, 137):
         refused(f"key size {bits}", small(CryptoApi(40, stated=bits), "calibre"), 23, (bits,))
 refused("key size 2^31 + 40", small(CryptoApi(40, stated=2 ** 31 + 40), "calibre"), 23, (2 ** 31 + 40,))
 
-# Look's key size, each compared with the one before: 0 and 40 are the same lock, of one version and whatever the type other than 0; 0 and none are not
+# Look's key size, each compared with the one before: 0 and 40 are different locks, though Look reports 40 for both
 TYPES = {kind: struct.pack("<H", kind) for kind in (2, 256, 65535)}
 for major in 2, 3, 4:
     opened(f"version {major}.2, key size 0", CryptoApi(40, stated=0, major=major), "calibre", SMALL)
@@ -159,6 +165,40 @@ for major in range(6):
     for minor in range(4):
         if (minor != 2 or not 2 <= major <= 4) and (major, minor) != (1, 1):
             refused(f"version {major}.{minor}, key size 0", B + record(FILEPASS, struct.pack("<HHH", 1, major, minor) + ZERO[6:]), 13, (major, minor))
+# Same lock, each compared with the one before: one byte of the body changed, the first, one in the middle and the last, and back again
+RIGHT = XOR.passwords(8)[0]
+LOCKS = ("XOR", XOR), ("1.1", Office97()), ("CryptoAPI", CryptoApi(name=b""))
+for name, lock in LOCKS:
+    body = lock.filepass(RIGHT)
+    refused(f"lock of {name}", B + record(FILEPASS, body), 27)
+    for place, at in ("first", 0), ("middle", len(body) // 2), ("last", len(body) - 1):
+        other = body[:at] + bytes([body[at] ^ 0x80]) + body[at + 1:]
+        refused(f"lock of {name}, its {place} byte changed", B + record(FILEPASS, other), *((27, ()) if at else (11, (other[0],))))
+        refused(f"lock of {name}, its {place} byte as before", B + record(FILEPASS, body), 27)
+    # the same body elsewhere, with other records after it
+    refused(f"lock of {name}, behind another record", B + record(0x00E1, b"\7\7\7") + record(FILEPASS, body), 27)
+    refused(f"lock of {name}, before another record", record(BOF, b"\7") + record(FILEPASS, body) + record(0x0042, b"\7"), 27)
+    # what is there of the body, with other lengths stated: all of it, all but its last byte, and all again
+    for there, again in (len(body), ""), (len(body) - 1, ""), (len(body), " again"):
+        for stated in there + 1, there + 2, 65535:
+            stream = B + struct.pack("<HH", FILEPASS, stated) + body[:there]
+            refused(f"lock of {name}, {there} bytes of {stated}{again}", stream, 6, (4,))
+    refused(f"lock of {name}, all of its bytes", B + record(FILEPASS, body), 27)
+# a salt or a verifier of its own is another lock
+for name, make in ("1.1", Office97), ("CryptoAPI", lambda **own: CryptoApi(name=b"", **own)):
+    for other, own in ("salt", {"salt": some(16, 5)}), ("verifier", {"verifier": some(16, 5)}):
+        opened(f"lock of {name}, before another {other}", make(), RIGHT, SMALL[:2])
+        opened(f"lock of {name}, another {other}", make(**own), RIGHT, SMALL[:2])
+# empty bodies, and bodies of one byte
+refused("lock of 0 bytes", B + record(FILEPASS), 10, (0, 2))
+refused("lock of 0 bytes, before another record", B + record(FILEPASS) + record(0x0042, b"\7"), 10, (0, 2))
+for stated in 1, 6, 65535:
+    refused(f"lock of 0 bytes of {stated}", B + struct.pack("<HH", FILEPASS, stated), 6, (4,))
+refused("lock of 1 byte", B + record(FILEPASS, b"\0"), 10, (1, 2))
+refused("lock of 1 byte of 2", B + record(FILEPASS, b"\0\0")[:5], 6, (4,))
+refused("lock of 1 byte of 2, another", B + record(FILEPASS, b"\1\0")[:5], 6, (4,))
+refused("lock of 0 bytes again", B + record(FILEPASS), 10, (0, 2))
+
 OLD = Office97().filepass("A")
 refused("1.1, bytes 30 to 33 zero", B + record(FILEPASS, OLD[:30] + bytes(4) + OLD[34:]), 27)
 
@@ -396,8 +436,6 @@ for bits in 48, *range(64, 128, 8):
     opened(f"CryptoAPI {bits}, three blocks", CryptoApi(bits), "Unruh 50°", SMALL[:-1] + [(0x00FD, some(2000, bits)), (EOF, b"")])
 
 # padding: every remainder of one to three bytes, of zeros and others, after nothing, after records, and where it is not a remainder but part of a record
-LOCKS = ("XOR", XOR), ("1.1", Office97()), ("CryptoAPI", CryptoApi(name=b""))
-RIGHT = XOR.passwords(8)[0]
 REMAINDERS = [bytes(r) for length in (1, 2, 3) for r in itertools.product(*((0, other) for other in (0x2F, 0x01, 0x80)[:length]))]
 for rest in REMAINDERS:
     padding, name = not any(rest), rest.hex()
