@@ -1,7 +1,8 @@
 //! Feeds a case to both sides, compares all that comes of it, and keeps count.
 
+use crate::copies::{self, Kind};
 use crate::generate::Case;
-use crate::oracle::{self, Answer};
+use crate::oracle::{self, Answer, Looked};
 use crate::paper;
 use crate::port::{self, LONG_SCRATCH_LEN, PASSWORD_MAX_LEN, SCRATCH_LEN};
 use std::collections::BTreeMap;
@@ -29,7 +30,11 @@ pub struct Compare {
     looks: [u64; 3],
     /// How many of the looks are judged by MS-OFFCRYPTO 2.3.5.1 and not by the Rust.
     by_standard: u64,
+    /// How many pairs of streams do not have the same lock, and how many do; and of the first, how many have the same facts and other bodies.
     pairs: [u64; 2],
+    other_bodies: u64,
+    /// The same of streams and copies of them, by what is different in the copy.
+    copies: BTreeMap<Kind, [u64; 2]>,
     /// How many forecasts give the counts, and how many refuse.
     forecasts: [u64; 2],
     numbers: BTreeMap<u32, u64>,
@@ -56,6 +61,17 @@ fn all(bytes: &[u8], byte: u8) -> bool {
 
 fn first_unequal(a: &[u8], b: &[u8]) -> usize {
     a.iter().zip(b).position(|(a, b)| a != b).unwrap_or(a.len().min(b.len()))
+}
+
+/// Whether two streams, of which one may be a copy, have the same lock by the oracle; and a fault if the port differs.
+fn compare_locks(a: Looked, b: Looked, copy: Option<Kind>, faults: &mut Vec<String>) -> bool {
+    let same = oracle::same_lock(&a, &b);
+    let ours = port::same_lock(a.stream, b.stream);
+    if ours != u8::from(same) {
+        let copy = copy.map_or(String::new(), |kind| format!(" of a copy, {kind:?}"));
+        faults.push(format!("same lock{copy}: port {ours}, oracle {same} of {:?} and {:?}", a.verdict, b.verdict));
+    }
+    same
 }
 
 impl Compare {
@@ -100,16 +116,14 @@ impl Compare {
         let password = std::str::from_utf8(&case.password).unwrap_or("");
         let container = oracle::container(stream, password);
 
-        let mut look = oracle::look(&container);
-        match &mut look {
-            Err(text) => faults.push(format!("look: the oracle gives {text}")),
-            Ok(look) => {
-                if let Some(key_size) = paper::instead(stream, *look) {
-                    look.1[4] = key_size;
-                    self.by_standard += 1;
-                }
-                self.compare_looks(stream, look, faults);
-            }
+        let look = Looked::at(stream, &container).map(|(looked, by_standard)| {
+            self.by_standard += u64::from(by_standard);
+            self.compare_looks(looked, faults);
+            self.compare_copies(looked, case.index, faults);
+            looked.verdict
+        });
+        if let Err(text) = &look {
+            faults.push(format!("look: the oracle gives {text}"));
         }
 
         // the oracle is asked also where what is lent is refused: the forecast is lent nothing
@@ -128,22 +142,48 @@ impl Compare {
         (look, answer)
     }
 
-    fn compare_looks(&mut self, stream: &[u8], look: &Look, faults: &mut Vec<String>) {
+    fn compare_looks(&mut self, this: Looked, faults: &mut Vec<String>) {
+        let (number, five) = this.verdict;
         let mut facts = [0; 8];
-        facts[..5].copy_from_slice(&look.1);
-        let ours = port::look(stream);
-        if ours != (look.0, facts) {
-            faults.push(format!("look: port {ours:?}, oracle {look:?}"));
+        facts[..5].copy_from_slice(&five);
+        let ours = port::look(this.stream);
+        if ours != (number, facts) {
+            faults.push(format!("look: port {ours:?}, oracle {:?}", this.verdict));
         }
-        let this = (stream, look);
-        let before = self.before.as_ref().map_or(this, |(stream, look)| (stream, look));
+        let before = self.before.as_ref().map_or(this, |(stream, verdict)| Looked { stream, verdict: *verdict });
         for (a, b) in [(this, this), (before, this), (this, before)] {
-            let same = oracle::same_lock(a.1, b.1);
-            let ours = port::same_lock(a.0, b.0);
-            if ours != u8::from(same) {
-                faults.push(format!("same lock: port {ours}, oracle {same} of {:?} and {:?}", a.1, b.1));
-            }
+            let same = compare_locks(a, b, None, faults);
             self.pairs[usize::from(same)] += 1;
+            self.other_bodies += u64::from(!same && oracle::same_facts(&a, &b));
+        }
+    }
+
+    /// Same lock of a stream that is locked and each copy of it, both ways.
+    fn compare_copies(&mut self, this: Looked, number: u64, faults: &mut Vec<String>) {
+        if this.verdict.0 != 2 {
+            return;
+        }
+        let Some(filepass) = paper::seen_filepass(this.stream) else {
+            return faults.push("look: yes, but there is no FILEPASS".to_string());
+        };
+        for kind in copies::KINDS {
+            let Some(copy) = copies::copy(kind, this.stream, filepass.clone(), number) else {
+                continue;
+            };
+            let other = match Looked::at(&copy, &oracle::bare_container(&copy)) {
+                Ok((other, _)) => other,
+                Err(text) => {
+                    faults.push(format!("look at a copy, {kind:?}: the oracle gives {text}"));
+                    continue;
+                }
+            };
+            for (a, b) in [(this, other), (other, this)] {
+                let same = compare_locks(a, b, Some(kind), faults);
+                self.copies.entry(kind).or_default()[usize::from(same)] += 1;
+                if !kind.possible()[usize::from(same)] {
+                    faults.push(format!("same lock: the oracle gives {same} of a copy, {kind:?}"));
+                }
+            }
         }
     }
 
@@ -235,7 +275,10 @@ impl Compare {
         println!("cases\t{}", self.cases);
         println!("look\tunknown {}, no {}, yes {}", self.looks[0], self.looks[1], self.looks[2]);
         println!("of them judged by MS-OFFCRYPTO 2.3.5.1, key size 0 as 40\t{}", self.by_standard);
-        println!("same lock\tno {}, yes {}", self.pairs[0], self.pairs[1]);
+        println!("same lock\tno {}, of them with the same facts {}, yes {}", self.pairs[0], self.other_bodies, self.pairs[1]);
+        for (kind, [no, yes]) in &self.copies {
+            println!("same lock of a copy, {kind:?}\tno {no}, yes {yes}");
+        }
         println!("forecast\ttold {}, refused {}", self.forecasts[0], self.forecasts[1]);
         println!("number\tcases");
         for (number, count) in &self.numbers {
@@ -273,8 +316,9 @@ impl Compare {
         self.differences == 0 && never.is_empty()
     }
 
-    /// Of what can occur in a run: questions 1 to 3 and 5 to 27, every lock with each of its key sizes, a key size of 0 in Look, forecasts of both
-    /// kinds, padded books that open under each lock, each kind of scratch, and passwords of the greatest length that open under each RC4 lock.
+    /// Of what can occur in a run: questions 1 to 3 and 5 to 27, every lock with each of its key sizes, a key size of 0 in Look, locks that only their
+    /// bodies part, each answer of Same lock about copies, forecasts of both kinds, padded books that open under each lock, each kind of scratch, and
+    /// passwords of the greatest length that open under each RC4 lock.
     fn never(&self) -> Vec<String> {
         let numbers = (0..=27).filter(|number| *number != 4 && !self.numbers.contains_key(number)).map(|number| number.to_string());
         let mut reports = vec![[0, 0, 0], [1, 40, 0]];
@@ -283,11 +327,26 @@ impl Compare {
         }
         let reports = reports.iter().filter(|report| !self.opened.contains_key(*report)).map(|report| format!("opened {report:?}"));
         let by_standard = (self.by_standard == 0).then(|| "look at a key size of 0".to_string());
+        let other_bodies = (self.other_bodies == 0).then(|| "locks that differ by their bodies alone".to_string());
+        let copies = copies::KINDS.iter().filter(|kind| {
+            let counts = self.copies.get(kind).copied().unwrap_or_default();
+            kind.possible().into_iter().zip(counts).any(|(possible, count)| possible && count == 0)
+        });
+        let copies = copies.map(|kind| format!("a copy, {kind:?}, with each answer that it can have"));
         let forecasts = self.forecasts.contains(&0).then(|| "a forecast that tells, or one that refuses".to_string());
         let padded = self.padded_opened.contains(&0).then(|| "a padded book opened under each lock".to_string());
         let scratches = self.scratches.contains(&0).then(|| "a scratch of just enough, of more, or a long one".to_string());
         let longest = self.longest_opened[1..].contains(&0).then(|| "a password of the greatest length under each RC4 lock".to_string());
-        numbers.chain(reports).chain(by_standard).chain(forecasts).chain(padded).chain(scratches).chain(longest).collect()
+        numbers
+            .chain(reports)
+            .chain(by_standard)
+            .chain(other_bodies)
+            .chain(copies)
+            .chain(forecasts)
+            .chain(padded)
+            .chain(scratches)
+            .chain(longest)
+            .collect()
     }
 }
 

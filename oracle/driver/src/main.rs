@@ -1,6 +1,7 @@
 //! Compares the port with the Rust source. See README.md in the folder above.
 
 mod compare;
+mod copies;
 mod generate;
 mod large;
 mod lock;

@@ -44,9 +44,38 @@ pub fn look(container: &[u8]) -> Result<(u32, [u64; 5]), String> {
     Ok((number, [verdict.xor_obfuscated.into(), there.into(), major.into(), minor.into(), key_bits.into()]))
 }
 
-/// Same lock, as the two verdicts imply it: both yes, and XOR mark, version and key size agree.
-pub fn same_lock(a: &(u32, [u64; 5]), b: &(u32, [u64; 5])) -> bool {
-    a.0 == 2 && a == b
+/// Whether the facts agree that Same lock compared before T-08: both verdicts are yes, with the same XOR mark, version and key size.
+pub fn same_facts(a: &Looked, b: &Looked) -> bool {
+    a.verdict.0 == 2 && a.verdict == b.verdict
+}
+
+/// Same lock, in the words of document 02 (T-08): these facts agree, which are the Rust's, and the FILEPASS bodies are equal byte for byte.
+pub fn same_lock(a: &Looked, b: &Looked) -> bool {
+    same_facts(a, b) && paper::seen_body(a.stream) == paper::seen_body(b.stream)
+}
+
+/// A stream, and what Look says of it.
+#[derive(Clone, Copy)]
+pub struct Looked<'a> {
+    pub stream: &'a [u8],
+    pub verdict: (u32, [u64; 5]),
+}
+
+impl<'a> Looked<'a> {
+    /// What Look must say of a stream in this container: what the Rust says, with the standard's key size where that decides. And whether it decides.
+    pub fn at(stream: &'a [u8], container: &[u8]) -> Result<(Self, bool), String> {
+        let mut verdict = look(container)?;
+        let instead = paper::instead(stream, verdict);
+        if let Some(key_size) = instead {
+            verdict.1[4] = key_size;
+        }
+        Ok((Self { stream, verdict }, instead.is_some()))
+    }
+}
+
+/// A container for a stream that is only looked at.
+pub fn bare_container(stream: &[u8]) -> Vec<u8> {
+    cfb::file_of(&[(WORKBOOK, stream)])
 }
 
 /// Open, of the container of a stream. An error that is none of document 01's, and a panic, are given as text.

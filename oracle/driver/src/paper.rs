@@ -1,8 +1,9 @@
 //! What document 01's words say of a stream where the Rust gives no value: the number of records, the lock and its key bits,
 //! the flags of questions 18 to 20, and questions 1 to 5. And what document 02's words say where the Rust says otherwise, or nothing: the scratch
-//! that question 3 asks for, the key size for 0, what opening takes, and the padding.
+//! that question 3 asks for, the key size for 0, the FILEPASS bodies that Same lock compares, what opening takes, and the padding.
 
 use crate::port::{PASSWORD_MAX_LEN, SCRATCH_LEN, STREAM_MAX_LEN};
+use std::ops::Range;
 
 pub const BOF: u16 = 0x0809;
 pub const FILEPASS: u16 = 0x002F;
@@ -81,16 +82,26 @@ pub fn flags(stream: &[u8]) -> Option<u32> {
 /// The key size in bits that Look reports where the four bytes are there and 0: document 02, T-03, by MS-OFFCRYPTO 2.3.5.1.
 pub const ZERO_MEANS: u64 = 40;
 
-/// The four bytes of the key size, if all of them lie in the first FILEPASS body and among the bytes that Look reads. Asked only where Look
-/// says yes, so the headers before that FILEPASS are whole.
-fn stated_key_size(stream: &[u8]) -> Option<u32> {
+/// Where the header of the first FILEPASS is, and the part of the stream that is its body, as far as it is there and among the bytes that Look reads,
+/// whatever length the header states (document 02, T-08). Asked only where Look says yes, so the headers up to that one are whole.
+pub fn seen_filepass(stream: &[u8]) -> Option<(usize, Range<usize>)> {
     let book = &stream[..stream.len().min(LOOK_CAP)];
     let mut at = 0;
     while u16_at(book, at)? != FILEPASS {
         at += 4 + u16_at(book, at + 2)? as usize;
     }
     let end = at + 4 + u16_at(book, at + 2)? as usize;
-    u32_at(&book[..book.len().min(end)], at + 34)
+    Some((at, at + 4..book.len().min(end)))
+}
+
+/// The bytes of that body.
+pub fn seen_body(stream: &[u8]) -> Option<&[u8]> {
+    seen_filepass(stream).map(|(_, body)| &stream[body])
+}
+
+/// The four bytes of the key size, if all of them lie in that body.
+fn stated_key_size(stream: &[u8]) -> Option<u32> {
+    u32_at(seen_body(stream)?, 30)
 }
 
 /// The key size in place of the Rust's, where the standard decides: a lock of version 2.2, 3.2 or 4.2 that states a key size of 0, for which the Rust

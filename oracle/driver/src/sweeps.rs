@@ -3,7 +3,7 @@
 
 use crate::generate::{xor_takes, Case, ALPHABET};
 use crate::lock::{filepass, put_record, CryptoApi, Lock};
-use crate::paper::{records, BOF, BOUND_SHEET, FILEPASS, LOOK_CAP};
+use crate::paper::{filepass as filepass_of, records, BOF, BOUND_SHEET, FILEPASS, LOOK_CAP};
 use crate::port::{LONG_SCRATCH_LEN, PASSWORD_MAX_LEN, SCRATCH_LEN};
 use crate::random::Random;
 
@@ -303,14 +303,17 @@ fn book_of_three(lock: &Lock, password: &str, len: usize, random: &mut Random) -
     (stream, plain)
 }
 
-/// Books whose FILEPASS is around Look's cap, at every offset from well before to just after, with only clear records before it.
+/// Books whose FILEPASS is around Look's cap, at every offset from well before to just after, and where it ends there, with only clear records before it.
 fn around_cap(give: &mut dyn FnMut(Case)) {
+    const FIRST: usize = LOOK_CAP - 42;
     let mut random = Random::new(0, 1);
     let mut index = 0;
     let books = small_books(&mut random);
     // one book of each family, and one that states a key size of 0
     for (stream, password) in [&books[0], &books[2], &books[4], &books[7]] {
-        for at in LOOK_CAP - 42..LOOK_CAP + 3 {
+        let record_len = 4 + filepass_of(stream).map_or(0, <[u8]>::len);
+        let ends = (LOOK_CAP - record_len - 1..LOOK_CAP - record_len + 2).filter(|at| *at < FIRST);
+        for at in (FIRST..LOOK_CAP + 3).chain(ends) {
             for longest in [65_535, 3] {
                 let mut book = clear_chain(at, longest, &mut random);
                 book.extend(&stream[4..]);
