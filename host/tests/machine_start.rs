@@ -146,14 +146,14 @@ fn builds_once_and_says_so() {
     let lines: Vec<&str> = said.lines().collect();
     let expected = "sheet: the first use here: the command is built first; this needs rt, cargo ";
     assert!(lines[0].starts_with(expected), "{said}");
-    assert!(lines[1].starts_with("sheet: proving the library, 22 crates: 6 minutes"));
+    assert!(lines[1].starts_with("sheet: proving the library, 23 crates: 6 minutes"));
     for (line, name) in lines[2..].iter().zip(["laws", "word", "limits", "padding"]) {
         assert!(
             line.starts_with(&format!("sheet: proving {name}, ")),
             "{said}"
         );
         assert!(
-            line.contains(" of 22; 0:0") && line.ends_with(" left"),
+            line.contains(" of 23; 0:0") && line.ends_with(" left"),
             "{said}"
         );
     }
@@ -339,7 +339,7 @@ fn shows_one_line_at_a_terminal_and_can_be_interrupted() {
     let slave = || terminal.slave.try_clone().unwrap();
     command.stdin(slave()).stdout(slave()).stderr(slave());
     let run = Process::start(&mut command);
-    terminal.wait_for("\rsheet: proving binary_office, 7 of 22; 0:0");
+    terminal.wait_for("\rsheet: proving binary_office, 7 of 23; 0:0");
     terminal.write(b"\x03");
     let status = run.end().status;
     assert_eq!(status.signal(), Some(SIGINT));
@@ -351,7 +351,7 @@ fn shows_one_line_at_a_terminal_and_can_be_interrupted() {
         "{shown}"
     );
     let lines = shown.split(['\r', '\n']);
-    for line in lines.filter(|line| line.contains(" of 22; ")) {
+    for line in lines.filter(|line| line.contains(" of 23; ")) {
         assert_eq!(line.trim_end_matches("^C").len(), 79, "{line}");
     }
 
