@@ -30,8 +30,8 @@ extern "C" {
 #endif
 
 /* The version, as text and as major * 10000 + minor * 100 + patch. CHANGELOG.md has what each version changed. */
-#define SHEET_VERSION "0.2.0"
-#define SHEET_VERSION_NUMBER 200
+#define SHEET_VERSION "0.3.0"
+#define SHEET_VERSION_NUMBER 300
 
 /* The bytes of scratch that opening and sealing need, and the most bytes of a password and of a stream (1 GiB). */
 #define SHEET_SCRATCH_LEN 64
