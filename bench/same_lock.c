@@ -11,7 +11,7 @@
 enum { ROUNDS = 15, CALLS = 400, FILEPASS = 0x002f, BOF = 0x0809, FRONT = 4 + 16 + 4, MOST = 65535 };
 static uint8_t first[FRONT + MOST], second[FRONT + MOST];
 
-/* BOF, and a FILEPASS with a body of a type that Look gives no facts for. */
+/* BOF, and a FILEPASS with a body whose version has no key size. */
 static void make(uint8_t *stream, size_t body)
 {
     memset(stream, 1, FRONT + body);

@@ -217,20 +217,20 @@ SHEET_MUST_CHECK uint32_t sheet_look(const uint8_t *stream, size_t stream_len, u
 /* Whether two workbooks have the same lock, by the first 1,048,576 bytes of each at most: sheet_look says SHEET_LOOK_YES of
  * both, and the bodies of their FILEPASS records are equal, byte for byte. Of a body, all its bytes count that are there
  * within those first bytes, whatever length its header states; the stated lengths are not compared. Where the bodies are
- * equal, so are the facts that sheet_look gives. Locks with different salts are different, and so are a key size of 0 and
- * one of 40.
+ * equal, so are the facts that sheet_look gives. Locks whose salts differ within those bytes are different, and so are those
+ * that state key sizes of 0 and of 40 there.
  *
  * A host can offer the last password again by it: the password that opened one workbook is the one to try on another with
  * the same lock. Two streams with the same lock are proved to take the same passwords: if sheet_forecast refuses neither, and
- * enough scratch and output is lent, sheet_open with any one password refuses both by SHEET_REFUSED_WRONG_PASSWORD, or
- * neither. This holds if the FILEPASS body of at least one of the two ends within its first 1,048,576 bytes. Where both go on
- * after that, the bytes that follow are not compared, and the passwords may differ.
+ * enough scratch and output is lent, sheet_open with any one password of UTF-8, of at most 1,024 bytes, opens both or refuses
+ * both by SHEET_REFUSED_WRONG_PASSWORD. This holds if the FILEPASS body of at least one of the two ends within its first
+ * 1,048,576 bytes. Where both go on after that, the bytes that follow are not compared, and the passwords may differ.
  *
  * A result of false says nothing about the passwords: except under XOR, workbooks that were locked with the same password
  * usually have different salts, and so different locks.
  *
- * The headers up to each FILEPASS record are read and, if both bodies have as many bytes, these up to the first that differs;
- * nothing else is read. */
+ * The headers up to each FILEPASS record are read and, if both bodies have the same number of bytes, these bytes up to the
+ * first that differs; nothing else is read. */
 SHEET_MUST_CHECK bool sheet_same_lock(const uint8_t *a, size_t a_len, const uint8_t *b, size_t b_len);
 
 /* The record whose header is at an offset of a stream. To list the records, start at 0 and go on at

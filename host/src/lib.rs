@@ -9,8 +9,8 @@
 //! book.xls Workbook > book.bin`). One to three zero bytes after its last record are padding: they
 //! are not a record, but count for the length of the stream.
 //!
-//! [`look`] shows whether a stream is locked, [`same_lock`] whether two have the same lock and so take
-//! the same passwords, [`records`] lists its records, [`directory`] gives where its sheets start,
+//! [`look`] shows whether a stream is locked, [`same_lock`] whether two have the same lock, so that
+//! the password of one is the one to try on the other, [`records`] lists its records, [`directory`] gives where its sheets start,
 //! [`forecast`] what opening it will take, [`seal`] puts a plain stream under a password, and [`open`]
 //! gives the plain stream:
 //!

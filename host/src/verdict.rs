@@ -85,8 +85,8 @@ pub fn look(stream: &[u8]) -> Verdict {
 /// Whether two workbooks have the same lock, by the first 1,048,576 bytes of each at most: [`look`] says
 /// [`Verdict::Yes`] of both, and the bodies of their FILEPASS records are equal, byte for byte. Of a
 /// body, all its bytes count that are there within those first bytes, whatever length its header
-/// states. Where the bodies are equal, so are the [`Facts`]. Locks with different salts are different,
-/// and so are those that state key sizes of 0 and of 40.
+/// states. Where the bodies are equal, so are the [`Facts`]. Locks whose salts differ within those
+/// bytes are different, and so are those that state key sizes of 0 and of 40 there.
 ///
 /// ```
 /// // BOF, then FILEPASS with an XOR lock.
@@ -111,8 +111,8 @@ pub fn look(stream: &[u8]) -> Verdict {
 /// The password that opened one workbook is the one to offer for the next that has the same lock. Two
 /// streams with the same lock are proved to take the same passwords: if
 /// [`forecast`](crate::forecast()) refuses neither, and enough scratch and output is lent,
-/// [`open`](crate::open()) with any one password refuses both by
-/// [`WrongPassword`](crate::Refusal::WrongPassword), or neither.
+/// [`open`](crate::open()) with any one password of UTF-8, of at most 1,024 bytes, opens both or refuses
+/// both by [`WrongPassword`](crate::Refusal::WrongPassword).
 ///
 /// ```
 /// # fn main() -> std::io::Result<()> {

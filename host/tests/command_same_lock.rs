@@ -253,9 +253,9 @@ fn locks_that_go_on_after_the_first_mebibyte_are_warned_of() {
         out: "same lock\tyes\n".into(),
         err: err.into(),
     };
-    let warning =
-        "sheet: warning: both FILEPASS records go on after the first mebibyte, which is all \
-                   that is compared: their locks may differ there, and so may their passwords\n";
+    let warning = "sheet: warning: by their headers both FILEPASS records go on after the first \
+                   mebibyte, which is all that is compared: their locks may differ there, and so \
+                   may their passwords\n";
     assert_eq!(run("whole", "whole"), yes(""));
     for more in ["one more", "another"] {
         assert_eq!(run("whole", more), yes(""));

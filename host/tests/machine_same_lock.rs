@@ -102,10 +102,10 @@ fn nothing_behind_a_body_is_read() {
         let further = Fenced::new(&further, 3004 + body.len());
         assert!(same(&fenced, &fenced), "{kind:?}");
         assert!(same(&fenced, &further), "{kind:?}");
-        // Of a body without bytes there is nothing to read at all.
-        let empty = Fenced::new(&stated(4, 0, &rows), 8);
-        assert!(same(&empty, &empty), "{kind:?}");
     }
+    // Of a body without bytes there is nothing to read at all.
+    let empty = Fenced::new(&stated(4, 0, &rows), 8);
+    assert!(same(&empty, &empty));
 }
 
 #[test]

@@ -117,7 +117,7 @@ fn a_body_ends_at_the_length_that_is_stated() {
     for kind in KINDS {
         let body = kind.filepass(kind.password());
         for len in 0..body.len() {
-            // What comes after is read as other records are, or not at all.
+            // What comes after is no part of it.
             let whole = stated(len, &body[..len]);
             assert!(same(&whole, &stated(len, &body)), "{kind:?} {len}");
             assert!(!same(&whole, &stated(len + 1, &body)), "{kind:?} {len}");
@@ -615,8 +615,7 @@ fn one_body_that_ends_within_the_cap_is_enough() {
     }
 }
 
-/// Two CryptoAPI locks with one salt, and with passwords and verifiers of their own; where the salt ends
-/// in both.
+/// Two CryptoAPI locks with one salt, and with passwords and verifiers of their own.
 fn one_salt() -> [(&'static str, Vec<u8>); 2] {
     let lock = |password, verifier| {
         let choice = Choice::CryptoApi {
@@ -633,6 +632,7 @@ fn one_salt() -> [(&'static str, Vec<u8>); 2] {
     ]
 }
 
+/// Where the salt ends in both.
 const SALT_END: usize = 66;
 
 #[test]

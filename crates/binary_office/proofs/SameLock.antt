@@ -116,6 +116,50 @@ agree-yes s t e = go (look s) refl e
     go No g h = let z : false ≡ true = h in impossible (cc)
     go (Yes f) g h = (f, g)
 
+-- facts that agree are equal
+beq-equal : (a b : Bool) → Bool·beq a b ≡ true → a ≡ b
+beq-equal true true e = refl
+beq-equal true false e = let z : false ≡ true = e in impossible (cc)
+beq-equal false true e = let z : false ≡ true = e in impossible (cc)
+beq-equal false false e = refl
+
+version-equal : (v w : Version) → sameVersion v w ≡ true → v ≡ w
+version-equal NoVersion NoVersion e = refl
+version-equal NoVersion (Pair a b) e = let z : false ≡ true = e in impossible (cc)
+version-equal (Pair a b) NoVersion e = let z : false ≡ true = e in impossible (cc)
+version-equal (Pair a b) (Pair c d) e = rw (eqb-true a c (and-left (eqb a c) (eqb b d) e), eqb-true b d (and-right (eqb a c) (eqb b d) e))
+
+size-equal : (v w : KeySize) → sameSize v w ≡ true → v ≡ w
+size-equal NoSize NoSize e = refl
+size-equal NoSize (Bits b) e = let z : false ≡ true = e in impossible (cc)
+size-equal (Bits a) NoSize e = let z : false ≡ true = e in impossible (cc)
+size-equal (Bits a) (Bits b) e = rw (eqb-true a b e)
+
+facts-equal : (f g : Facts) → sameFacts f g ≡ true → f ≡ g
+facts-equal f g e =
+    let marks = Bool·beq (f .xor) (g .xor) in
+    let versions = sameVersion (f .version) (g .version) in
+    let sizes = sameSize (f .«key_size») (g .«key_size») in
+    let both = and-left (marks && versions) sizes e in
+    let x = beq-equal (f .xor) (g .xor) (and-left marks versions both) in
+    let v = version-equal (f .version) (g .version) (and-right marks versions both) in
+    let k = size-equal (f .«key_size») (g .«key_size») (and-right (marks && versions) sizes e) in
+    ap (λ (b : Bool). record { xor = b; version = f .version; «key_size» = f .«key_size» }) x
+    ∙ ap (λ (w : Version). record { xor = g .xor; version = w; «key_size» = f .«key_size» }) v
+    ∙ ap (λ (n : KeySize). record { xor = g .xor; version = g .version; «key_size» = n }) k
+
+agree-both : (s t : List ℕ) → factsAgree s t ≡ true → (f : Facts) × (look s ≡ Yes f) × (look t ≡ Yes f)
+unfolding factsAgree
+agree-both s t e =
+    let first = agree-yes s t e in
+    let last = agree-yes t s (agree-sym t s ∙ e) in
+    let same : sameFacts (first .0) (last .0) ≡ true = sym (ap (λ (v : Verdict). sameVerdict v (look t)) (first .1) ∙ ap (sameVerdict (Yes (first .0))) (last .1)) ∙ e in
+    (first .0, first .1, last .1 ∙ ap Yes (sym (facts-equal (first .0) (last .0) same)))
+
+both-agree : (s t : List ℕ) (f : Facts) → look s ≡ Yes f → look t ≡ Yes f → factsAgree s t ≡ true
+unfolding factsAgree
+both-agree s t f e g = rw (e, g) (facts-self f)
+
 -- equal bodies have equal facts, so that the bodies of two looks that say yes decide
 pub facts-follow : (x y : List ℕ) → (sameFacts (factsOf x) (factsOf y) && sameBytes x y) ≡ sameBytes x y
 facts-follow x y = go (sameBytes x y) refl
@@ -248,6 +292,8 @@ same-capped s t = rw (same-look s, same-look t, same-body s, same-body t)
 pub shared-locks : SharedLocks
 shared-locks =
     record {
+      agree = both-agree;
+      agree-only = agree-both;
       before = shared-facts;
       symmetric = same-lock-sym;
       transitive = same-lock-trans;

@@ -81,7 +81,7 @@ pub record Told (s b : List ℕ) : Type 0 where
   pub other-major : (major : ℕ) → le16At b 2 ≡ two.Value major → (2 ≤ major → major ≤ 4 → ⊥) → reported (look s) ≡ NoSize
   pub other-minor : (minor : ℕ) → le16At b 4 ≡ two.Value minor → (minor ≡ 2 → ⊥) → reported (look s) ≡ NoSize
 
--- the lock of two streams whose bodies have one version
+-- the facts of two streams whose bodies have one version
 pub record TwoSizes (s t b c : List ℕ) : Type 0 where
   -- "Same lock follows, so a 0 and a 40 of one version now agree."
   pub agree : (major : ℕ) → Versioned b major → Versioned c major → le32At b 30 ≡ four.Value 0 → le32At c 30 ≡ four.Value 40 → factsAgree s t ≡ true

@@ -26,6 +26,9 @@ pub record TwoBodies (s t b c : List ℕ) : Type 0 where
       → (sameLock s t ≡ false) × (sameLock t s ≡ false)
 
 pub record SharedLocks : Type 0 where
+  -- the facts compared so far agree exactly where both looks say yes, with the same facts
+  pub agree : (s t : List ℕ) (f : Facts) → look s ≡ Yes f → look t ≡ Yes f → factsAgree s t ≡ true
+  pub agree-only : (s t : List ℕ) → factsAgree s t ≡ true → (f : Facts) × (look s ≡ Yes f) × (look t ≡ Yes f)
   -- "Any pair called the same now was called the same before"
   pub before : (s t : List ℕ) → sameLock s t ≡ true → factsAgree s t ≡ true
   -- it is symmetric and transitive, and true of a stream and itself exactly where its look says yes

@@ -95,7 +95,8 @@ same-checks s t same (inl w) e g password = first-whole s t same e g w password
 same-checks s t same (inr w) e g password = sym (first-whole t s (same-lock-sym t s ∙ same) g e w password)
 
 -- a run that reaches question 27: questions 6 to 26 let the stream through, and the check decides
-module _ (s password scratch output : List ℕ) (a : Answer) (scratch′ output′ : List ℕ) (run : Opens s password scratch output a scratch′ output′) (reaches : Reaches27 a) where
+module _ (s password scratch output : List ℕ) (a : Answer) (scratch′ output′ : List ℕ)
+    (run : Opens s password scratch output a scratch′ output′) (reaches : Reaches27 a) where
   abbrev lending : List Question
   lending = lent scratchNeed password (length s) (length scratch) (length output)
 
@@ -154,7 +155,12 @@ unfolding pick
 same-answers true x y a b e g =
     record { opened-to = λ told h. (y, g); opened-from = λ told h. (x, e); refused-to = λ r h. cc; refused-from = λ r h. cc }
 same-answers false x y a b e g =
-    record { opened-to = λ told h. not-opened told (sym e ∙ h); opened-from = λ told h. not-opened told (sym g ∙ h); refused-to = λ r h. g ∙ sym e ∙ h; refused-from = λ r h. e ∙ sym g ∙ h }
+    record {
+      opened-to = λ told h. not-opened told (sym e ∙ h);
+      opened-from = λ told h. not-opened told (sym g ∙ h);
+      refused-to = λ r h. g ∙ sym e ∙ h;
+      refused-from = λ r h. e ∙ sym g ∙ h;
+    }
   where
     not-opened : {X : Type 0} (told : Report) → Refused WrongPassword ≡ Opened told → X
     not-opened told z = impossible (cc)
@@ -163,10 +169,10 @@ pub same-passwords : SamePasswords
 same-passwords = record { streams = same-checks; runs = same-runs }
   where
     same-runs : OfAnyRuns
-    same-runs s t password scratch output other-scratch other-output a b scratch′ output′ other-scratch′ other-output′ same within run other-run reaches other-reaches =
-        let e = stream-passed s password scratch output a scratch′ output′ run reaches in
-        let g = stream-passed t password other-scratch other-output b other-scratch′ other-output′ other-run other-reaches in
-        let check = same-checks s t same within e g password in
-        same-answers (passes (filepassBody t) password) (report s) (report t) a b
-        (by-check s password scratch output a scratch′ output′ run reaches ∙ ap (λ (k : Bool). pick k (Opened (report s)) (Refused WrongPassword)) check)
-        (by-check t password other-scratch other-output b other-scratch′ other-output′ other-run other-reaches)
+    same-runs s t p w o x q a b w′ o′ x′ q′ same within run other-run reaches other-reaches =
+        let e = stream-passed s p w o a w′ o′ run reaches in
+        let g = stream-passed t p x q b x′ q′ other-run other-reaches in
+        let check = same-checks s t same within e g p in
+        same-answers (passes (filepassBody t) p) (report s) (report t) a b
+        (by-check s p w o a w′ o′ run reaches ∙ ap (λ (k : Bool). pick k (Opened (report s)) (Refused WrongPassword)) check)
+        (by-check t p x q b x′ q′ other-run other-reaches)

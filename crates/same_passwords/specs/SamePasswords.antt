@@ -1,7 +1,7 @@
 -- Two books with the same lock take the same passwords (document 02, T-08: "Bench software offers the last password again for a book with the same lock"). Same
 -- lock reads the first 1,048,576 bytes of each stream and no more, so this is stated of two streams of which the FILEPASS body of at least one ends within them.
--- Of others it is false: the locks of two CryptoAPI books are the same where their bodies are cut there behind the same salt and before the verifier, whatever
--- the verifiers are.
+-- Of others it can be false: the locks of two CryptoAPI books are the same where their bodies are cut there behind the same salt and before the verifier, whatever
+-- the verifiers are. `host/tests/same_lock.rs` has such a pair.
 -- Assumes nothing.
 use mathlib.Core.Path.{_≡_}
 use Prim.Native.Nat.{ℕ, _+_, _≤_}

@@ -36,10 +36,10 @@ same-number (Opened x) b h = sym (ap openNumber (h .opened-to x refl .1))
 same-number (Refused r) b h = sym (ap openNumber (h .refused-to r refl))
 
 pub same-passwords-in-c : OfAnyRunsInC
-same-passwords-in-c s t password same scratch output other-scratch other-output a b scratch′ output′ told other-scratch′ other-output′ other-told told-same holds within run other-run first second =
+same-passwords-in-c s t p same w o x q a b w′ o′ told x′ q′ told′ told-same holds within run other-run first second =
     run .answered
     ∙ same-number _ _
-    (same-passwords .runs s t password scratch output other-scratch other-output _ _ scratch′ output′ other-scratch′ other-output′ (sym told-same ∙ holds) within
-    (opens s password scratch output a scratch′ output′ told run) (opens t password other-scratch other-output b other-scratch′ other-output′ other-told other-run)
-    (reaches s password scratch output a scratch′ output′ told run first) (reaches t password other-scratch other-output b other-scratch′ other-output′ other-told other-run second))
+    (same-passwords .runs s t p w o x q _ _ w′ o′ x′ q′ (sym told-same ∙ holds) within
+    (opens s p w o a w′ o′ told run) (opens t p x q b x′ q′ told′ other-run)
+    (reaches s p w o a w′ o′ told run first) (reaches t p x q b x′ q′ told′ other-run second))
     ∙ sym (other-run .answered)

@@ -22,8 +22,8 @@ pub const XOR_PASSWORDS: &str = "under XOR a password has 1 to 15 characters, no
 /// What is said where the locks of two streams are the same as far as they are compared, and both go
 /// on after that.
 pub const LOCKS_GO_ON: &str =
-    "both FILEPASS records go on after the first mebibyte, which is all that is compared: their \
-     locks may differ there, and so may their passwords";
+    "by their headers both FILEPASS records go on after the first mebibyte, which is all that is \
+     compared: their locks may differ there, and so may their passwords";
 
 /// What is said beside a refusal to open a stream.
 pub fn of_refusal(refusal: &Refusal, stream: &[u8]) -> Vec<String> {

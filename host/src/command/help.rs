@@ -4,8 +4,9 @@ pub const HELP: &str = "\
 sheet: looks at, lists, opens and seals protected Excel 97-2003 workbooks
 
   sheet look FILE            shows whether the workbook is locked, and how
-  sheet same-lock A B        shows whether two workbooks have the same lock,
-                             and so take the same passwords
+  sheet same-lock A B        shows whether two workbooks have the same lock; if
+                             so, the password of one is the one to try on the
+                             other
   sheet list FILE            lists its records
   sheet directory FILE       lists its sheets and where they start; this takes
                              no password
@@ -51,10 +52,10 @@ SAME-LOCK reads the first mebibyte of A and of B and no more. It says yes if
 both are locked and the bodies of their FILEPASS records have the same bytes,
 as far as these are in the first mebibyte. Then the password that opened A is
 the one to try on B: where both can be opened at all, a password passes the
-check of one exactly if it passes that of the other. Only where both records go
-on after the first mebibyte this need not be so, and a warning says it. 'no'
-does not mean that the passwords differ: except under XOR, programs write a new
-salt with each lock, whatever its password is.
+check of one exactly if it passes that of the other. The exception: where both
+records go on after the first mebibyte, the passwords may differ, and a warning
+says so. 'no' does not mean that the passwords differ: except under XOR,
+programs write a new salt with each lock, whatever its password is.
 
 THE PASSWORD comes from the first of these that is there:
 
@@ -116,7 +117,8 @@ PRINTED, in columns separated by tabs:
           version, and key size in bits
   same-lock
           same lock: yes or no. For no also why: in which of the two look
-          finds no lock, or that both are locked and their records differ
+          finds no lock or can't tell, or that both are locked and their
+          records differ
   list    at: the offset of the record; id, hexadecimal; length of its body;
           clear: how many of the body's first bytes are never enciphered. One
           to three zero bytes after the last record are padding, and have no

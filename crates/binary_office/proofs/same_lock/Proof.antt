@@ -2,8 +2,11 @@
 -- decide.
 -- Assumes nothing.
 use mathlib.Core.Path.{sym, ap, _∙_}
-use Prim.Native.Nat.{_≤_}
-use Rattle.binary_office.specs.Look.{found}
+use mathlib.Core.List.{List}
+use Prim.Native.Nat.{ℕ, _-_, _≤_}
+use lib.ListN.{take, drop}
+use Rattle.binary_office.specs.Look.{found, capped}
+use Rattle.binary_office.specs.SameLock.{sameBytes}
 use Rattle.binary_office.proofs.Locks.{book-cut, within-cut, rest-cut}
 use Rattle.binary_office.proofs.Bodies.{starts-within}
 use Rattle.binary_office.proofs.SameLock.{unreadable-none, other-none, first-none, second-none, both-found}
@@ -79,10 +82,13 @@ returns-5 c =
     let second = book-cut (args .b .now) 1048576 m (at-second .least-usize2 .ensures) in
     let first-rest = rest-cut (args .a .now) 1048576 n start (at-first .least-usize .ensures) in
     let second-rest = rest-cut (args .b .now) 1048576 m place (at-second .least-usize2 .ensures) in
+    let len = at-start .start .given .0 .1 .0 in
+    let size = at-place .place .given .0 .1 .0 in
     c .same-first .ensures
-    ∙ rw (first-rest, second-rest)
-    (both-found (args .a .now) (args .b .now) start _ place _ (sym (at-start .start .given .1) ∙ at-find .find .ensures ∙ ap found first)
-    (sym (at-place .place .given .1) ∙ at-second-find .find2 .ensures ∙ ap found second))
+    ∙ ap (λ (l : List ℕ). sameBytes (take len l) (take size (take (m - place) (drop place (take (m - 0) (args .b .now)))))) first-rest
+    ∙ ap (λ (l : List ℕ). sameBytes (take len (drop start (capped (args .a .now)))) (take size l)) second-rest
+    ∙ both-found (args .a .now) (args .b .now) start len place size (sym (at-start .start .given .1) ∙ at-find .find .ensures ∙ ap found first)
+    (sym (at-place .place .given .1) ∙ at-second-find .find2 .ensures ∙ ap found second)
 
 pub same-lock-spec : {M : Type 1} → statement M
 same-lock-spec =
