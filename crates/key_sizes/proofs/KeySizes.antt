@@ -3,7 +3,7 @@
 -- Assumes nothing.
 use mathlib.Core.Path.{_≡_, refl, sym, ap, _∙_}
 use mathlib.Core.Bool.{Bool, true, false, _&&_, _||_}
-use mathlib.Core.List.{List, _++_}
+use mathlib.Core.List.{List}
 use mathlib.Core.Option.{none, some}
 use Prim.Native.Nat.{ℕ, _+_, _-_, _%_, _≤_, _<_}
 use native.Mathlib.Omega.{arith}
@@ -28,8 +28,8 @@ use Rattle.binary_office.proofs.Headers.{le16-value, le32-value, le16-first, le
 use Rattle.binary_office.proofs.Locks.{bits-zero, bits-stated, part-cut, look-found}
 use Rattle.binary_office.proofs.KeySizes.{facts-are, no-size}
 use Rattle.binary_office.proofs.Bodies.{impossible}
-use Rattle.file_params.specs.Questions.{asked, only, book, lock, rc4, version, office97, cryptoApi, encryptionType, ofStream, filepass, bodyOf, filepassBody, typeOf, structureOf, majorOf, minorOf, isOffice97, isCryptoApi, headerSize, verifierAt, keySize}
-use Rattle.file_params.proofs.Laws.{none-of-both, first-yes, only-yes}
+use Rattle.file_params.specs.Questions.{asked, only, book, lock, version, cryptoApi, ofStream, filepass, bodyOf, filepassBody, typeOf, structureOf, majorOf, minorOf, isOffice97, headerSize, verifierAt, keySize}
+use Rattle.file_params.proofs.Laws.{none-of-both, first-yes}
 use Rattle.rc4_cryptoapi.specs.Parse.{keyBits}
 use Rattle.block_keys.specs.declared.Rc4Lock.{Rc4Lock}
 use Rattle.block_keys.specs.Lock.{lockOf, office97Lock, cryptoApiLock}
@@ -40,12 +40,8 @@ use Rattle.survey.specs.Survey.{bookOf}
 use Rattle.survey.proofs.Locked.{at-most-one}
 use Rattle.excel97.proofs.Settled.{xor-reported, rc4-reported, has-opened}
 use Rattle.key_sizes.specs.KeySizes.{OfAnyRun}
-use Rattle.key_sizes.proofs.Passed.{behind, bof, in-order, first-found}
+use Rattle.key_sizes.proofs.Passed.{second-true, behind, bof, in-order, first-found, rc4-passed, is-cryptoapi, cryptoapi-passed}
 use Rattle.key_sizes.proofs.Scanned.{seen-there, seen-not, looked}
-
-pub second-true : (t u : Bool) → t ≡ false → (t || u) ≡ true → u ≡ true
-second-true true u e g = let z : true ≡ false = e in impossible (cc)
-second-true false u e g = g
 
 -- the FILEPASS body of a CryptoAPI book, past question 23: what Look reads of it
 pub record CryptoApiBody (body : List ℕ) : Type 0 where
@@ -67,40 +63,21 @@ module _ (body : List ℕ) (e : none ≡ asked (lock body)) (one : typeOf body �
   abbrev structure : List ℕ
   structure = structureOf body
 
-  rc4-passed : asked (rc4 structure) ≡ none
-  unfolding lock
-  rc4-passed =
-      ap asked (sym (only-yes (rc4 structure) (eq-eqb (typeOf body) 1 one)))
-      ∙ none-of-both (encryptionType body) (only (eqb (typeOf body) 1) (rc4 structure)) (sym e) .1
-
-  version-passed : asked (version structure) ≡ none
-  unfolding rc4
-  version-passed = none-of-both (version structure) (only (isOffice97 structure) (office97 structure) ++ only (isCryptoApi structure) (cryptoApi structure)) rc4-passed .0
-
-  is-cryptoapi : isCryptoApi structure ≡ true
-  unfolding version
-  is-cryptoapi = second-true (isOffice97 structure) (isCryptoApi structure) not-1-1 (first-yes _ (drop 2 (version structure)) (behind 1 (version structure) version-passed))
-
-  cryptoapi-passed : asked (cryptoApi structure) ≡ none
-  unfolding rc4
-  cryptoapi-passed =
-      ap asked (sym (only-yes (cryptoApi structure) is-cryptoapi))
-      ∙ none-of-both (only (isOffice97 structure) (office97 structure)) (only (isCryptoApi structure) (cryptoApi structure))
-      (none-of-both (version structure) (only (isOffice97 structure) (office97 structure) ++ only (isCryptoApi structure) (cryptoApi structure)) rc4-passed .1)
-      .1
+  questions : asked (cryptoApi structure) ≡ none
+  questions = cryptoapi-passed structure (rc4-passed body (sym e) one) not-1-1
 
   -- questions 16, 17 and 23
   header-fits : within 32 1024 (headerSize structure) ≡ true
   unfolding cryptoApi
-  header-fits = first-yes _ (drop 2 (cryptoApi structure)) (behind 1 (cryptoApi structure) cryptoapi-passed)
+  header-fits = first-yes _ (drop 2 (cryptoApi structure)) (behind 1 (cryptoApi structure) questions)
 
   header-there : verifierAt structure ≤ length structure
   unfolding cryptoApi
-  header-there = leb-true (verifierAt structure) (length structure) (first-yes _ (drop 3 (cryptoApi structure)) (behind 2 (cryptoApi structure) cryptoapi-passed))
+  header-there = leb-true (verifierAt structure) (length structure) (first-yes _ (drop 3 (cryptoApi structure)) (behind 2 (cryptoApi structure) questions))
 
   size-fits : (eqb (keySize structure) 0 || (within 40 128 (keySize structure) && eqb (keySize structure % 8) 0)) ≡ true
   unfolding cryptoApi
-  size-fits = first-yes _ (drop 9 (cryptoApi structure)) (behind 8 (cryptoApi structure) cryptoapi-passed)
+  size-fits = first-yes _ (drop 9 (cryptoApi structure)) (behind 8 (cryptoApi structure) questions)
 
   long : 46 ≤ length body
   long =
@@ -115,8 +92,8 @@ module _ (body : List ℕ) (e : none ≡ asked (lock body)) (one : typeOf body �
   pub cryptoapi-body : CryptoApiBody body
   unfolding le32
   cryptoapi-body =
-      let major-fits = and-left (within 2 4 (majorOf structure)) (eqb (minorOf structure) 2) is-cryptoapi in
-      let minor-fits = and-right (within 2 4 (majorOf structure)) (eqb (minorOf structure) 2) is-cryptoapi in
+      let major-fits = and-left (within 2 4 (majorOf structure)) (eqb (minorOf structure) 2) (is-cryptoapi structure (rc4-passed body (sym e) one) not-1-1) in
+      let minor-fits = and-right (within 2 4 (majorOf structure)) (eqb (minorOf structure) 2) (is-cryptoapi structure (rc4-passed body (sym e) one) not-1-1) in
       let l = long in
       record {
         versioned =

@@ -2,35 +2,30 @@
 -- reads lies within it.
 -- Assumes nothing.
 use mathlib.Core.Path.{_≡_, refl, sym, ap, _∙_}
-use mathlib.Core.Bool.{Bool, true, false, not, _&&_, _||_}
-use mathlib.Core.List.{List, [], _∷_, _++_}
+use mathlib.Core.Bool.{Bool, true, false}
+use mathlib.Core.List.{List, []}
 use mathlib.Core.Option.{Option, none, some}
-use Prim.Native.Nat.{ℕ, _+_, _-_, _≤_, _<_}
+use Prim.Native.Nat.{ℕ, _+_, _≤_, _<_}
 use native.Mathlib.Omega.{arith}
 use borrow.Author.Tests.{eq-eqb, ne-eqb, leb-true}
 use lib.Bits.{bitXor}
-use lib.Dec.{eqb, leb}
-use lib.ListN.{length, getD, take, drop, length-drop}
+use lib.ListN.{length, getD, drop, length-drop}
 use lib.Seq.{getD-drop, ext-getD}
-use Rattle.laws.specs.Choice.{pick}
 use Rattle.laws.specs.Offsets.{tabulate}
 use Rattle.laws.proofs.Choice.{taken, left, same-or}
 use Rattle.laws.proofs.Offsets.{length-tabulate, getD-tabulate}
 use Rattle.word.specs.Word.{le32}
 use Rattle.sensitive.specs.Ansi.{ansi}
 use Rattle.rc4.specs.Rc4.{keystreamByte}
-use Rattle.file_params.specs.Questions.{asked, only, lock, rc4, version, office97, cryptoApi, encryptionType, le16, typeOf, structureOf, majorOf, minorOf, isOffice97, isCryptoApi, headerSize, headerFlags, keySize, verifierAt}
-use Rattle.file_params.proofs.Laws.{none-of-both, first-yes, only-yes}
-use Rattle.rc4_cryptoapi.specs.Parse.{keyBits}
+use Rattle.file_params.specs.Questions.{asked, lock, rc4, office97, cryptoApi, le16, typeOf, structureOf, isOffice97, verifierAt}
+use Rattle.file_params.proofs.Laws.{first-yes}
 use Rattle.block_keys.specs.declared.Schedule.{Schedule}
-use Rattle.block_keys.specs.declared.Rc4Lock.{Rc4Lock}
 use Rattle.block_keys.specs.declared.Kind.the-variants as kind
 use Rattle.block_keys.specs.BlockKeys.{scheduleOf, blockKey, digestBy, digestLen, agree, under, verified}
-use Rattle.block_keys.specs.Lock.{lockOf, office97Lock, cryptoApiLock, part, saltOf}
+use Rattle.block_keys.specs.Lock.{lockOf, office97Lock, cryptoApiLock, part}
 use Rattle.survey.proofs.Locked.{two-there, six-there, at-most-one}
 use Rattle.excel97.specs.Open.{xorMatches, rc4Matches, passes}
-use Rattle.key_sizes.proofs.Passed.{behind}
-use Rattle.key_sizes.proofs.KeySizes.{second-true}
+use Rattle.key_sizes.proofs.Passed.{behind, rc4-passed, version-there, office97-passed, cryptoapi-passed}
 
 -- a list is the beginning of another
 abbrev pub Begins : (b c : List ℕ) → Type 0
@@ -74,31 +69,16 @@ same-verified s verifier g h e =
 
 -- two structures of type 1, the first of which questions 12 to 26 let through
 module _ (b c : List ℕ) (begins : Begins b c) (e : asked (rc4 b) ≡ none) where
-  version-passed : asked (version b) ≡ none
-  unfolding rc4
-  version-passed = none-of-both (version b) (only (isOffice97 b) (office97 b) ++ only (isCryptoApi b) (cryptoApi b)) e .0
-
-  families-passed : asked (only (isOffice97 b) (office97 b) ++ only (isCryptoApi b) (cryptoApi b)) ≡ none
-  unfolding rc4
-  families-passed = none-of-both (version b) (only (isOffice97 b) (office97 b) ++ only (isCryptoApi b) (cryptoApi b)) e .1
-
-  version-there : 4 ≤ length b
-  unfolding version
-  version-there = leb-true 4 (length b) (first-yes _ (drop 1 (version b)) version-passed)
-
   same-family : isOffice97 b ≡ isOffice97 c
   same-family =
-      let l = version-there in
+      let l = version-there b e in
       rw (same-16 b c begins 0 (omega arith), same-16 b c begins 2 (omega arith))
 
   -- Office 97
   module _ (is : isOffice97 b ≡ true) where
     fields-there : 52 ≤ length b
     unfolding office97
-    fields-there =
-        let passed : asked (office97 b) ≡ none =
-        ap asked (sym (only-yes (office97 b) is)) ∙ none-of-both (only (isOffice97 b) (office97 b)) (only (isCryptoApi b) (cryptoApi b)) families-passed .0 in
-        leb-true 52 (length b) (first-yes _ [] passed)
+    fields-there = leb-true 52 (length b) (first-yes _ [] (office97-passed b e is))
 
     lock-97 : (x : List ℕ) → isOffice97 x ≡ true → lockOf x ≡ office97Lock
     unfolding lockOf
@@ -118,22 +98,10 @@ module _ (b c : List ℕ) (begins : Begins b c) (e : asked (rc4 b) ≡ none) whe
 
   -- CryptoAPI
   module _ (other : isOffice97 b ≡ false) where
-    is-cryptoapi : isCryptoApi b ≡ true
-    unfolding version
-    is-cryptoapi = second-true (isOffice97 b) (isCryptoApi b) other (first-yes _ (drop 2 (version b)) (behind 1 (version b) version-passed))
-
-    cryptoapi-passed : asked (cryptoApi b) ≡ none
-    cryptoapi-passed =
-        ap asked (sym (only-yes (cryptoApi b) is-cryptoapi)) ∙ none-of-both (only (isOffice97 b) (office97 b)) (only (isCryptoApi b) (cryptoApi b)) families-passed .1
-
-    -- questions 17 and 24
-    header-there : verifierAt b ≤ length b
-    unfolding cryptoApi
-    header-there = leb-true (verifierAt b) (length b) (first-yes _ (drop 3 (cryptoApi b)) (behind 2 (cryptoApi b) cryptoapi-passed))
-
+    -- question 24
     verifier-there : verifierAt b + 60 ≤ length b
     unfolding cryptoApi
-    verifier-there = leb-true (verifierAt b + 60) (length b) (first-yes _ (drop 10 (cryptoApi b)) (behind 9 (cryptoApi b) cryptoapi-passed))
+    verifier-there = leb-true (verifierAt b + 60) (length b) (first-yes _ (drop 10 (cryptoApi b)) (behind 9 (cryptoApi b) (cryptoapi-passed b e other)))
 
     lock-api : (x : List ℕ) → isOffice97 x ≡ false → lockOf x ≡ cryptoApiLock x
     unfolding lockOf
@@ -180,11 +148,9 @@ module _ (b c : List ℕ) (begins : Begins b c) (e : asked (lock b) ≡ none) (p
       by-password (some p) = let l = six-there b (sym e) z in rw (same-16 b c begins 2 (omega arith), same-16 b c begins 4 (omega arith))
 
   check-rc4 : (typeOf b ≡ 0 → ⊥) → passes b password ≡ passes c password
-  unfolding passes lock
+  unfolding passes
   check-rc4 z =
-      let one : typeOf b ≡ 1 = only-one (typeOf b) z (at-most-one b (sym e)) in
-      let passed : asked (rc4 (structureOf b)) ≡ none =
-      ap asked (sym (only-yes (rc4 (structureOf b)) (eq-eqb (typeOf b) 1 one))) ∙ none-of-both (encryptionType b) (only (eqb (typeOf b) 1) (rc4 (structureOf b))) e .1 in
+      let passed = rc4-passed b e (only-one (typeOf b) z (at-most-one b (sym e))) in
       left (xorMatches b (ansi password)) (rc4Matches (structureOf b) password) (ne-eqb (typeOf b) 0 z)
       ∙ same-matches (structureOf b) (structureOf c) (same-rest b c begins) passed password
       ∙ sym (left (xorMatches c (ansi password)) (rc4Matches (structureOf c) password) (ne-eqb (typeOf c) 0 (λ g. z (same-type ∙ g))))

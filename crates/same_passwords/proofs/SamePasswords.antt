@@ -4,9 +4,9 @@
 use mathlib.Core.Path.{_≡_, refl, sym, ap, _∙_}
 use mathlib.Core.Bool.{Bool, true, false}
 use mathlib.Core.List.{List, [], _∷_, _++_}
-use mathlib.Core.Logic.{_⊎_, inl, inr}
+use mathlib.Core.Logic.{inl, inr}
 use mathlib.Core.Option.{Option, none, some}
-use Prim.Native.Nat.{ℕ, _+_, _-_, _≤_, _<_, min}
+use Prim.Native.Nat.{ℕ, _+_, _-_, _≤_, min}
 use native.Mathlib.Omega.{arith}
 use borrow.Author.Tests.{leb-true}
 use lib.Dec.{leb}
@@ -16,7 +16,7 @@ use Rattle.laws.specs.Choice.{pick}
 use Rattle.laws.proofs.Choice.{either}
 use Rattle.binary_office.specs.declared.Finding.the-variants.{Filepass, Unreadable}
 use Rattle.binary_office.specs.Walk.{BiffRecord, walk}
-use Rattle.binary_office.specs.Look.{found, capped}
+use Rattle.binary_office.specs.Look.{found}
 use Rattle.binary_office.specs.SameLock.{cappedBody, sameLock}
 use Rattle.binary_office.proofs.Locks.{part-cut}
 use Rattle.binary_office.proofs.Bodies.{impossible}
@@ -24,7 +24,7 @@ use Rattle.binary_office.proofs.SameLock.{body-found, shared-body, first-none, 
 use Rattle.file_params.specs.declared.Refusal.{Refusal}
 use Rattle.file_params.specs.declared.Refusal.the-variants.{WrongPassword}
 use Rattle.file_params.specs.Refusal.{number}
-use Rattle.file_params.specs.Questions.{Question, scratchNeed, ask, asked, lent, book, lock, ofStream, questions, filepass, bodyOf, filepassBody, otherId, startsBof}
+use Rattle.file_params.specs.Questions.{Question, scratchNeed, ask, asked, lent, book, lock, ofStream, questions, filepass, bodyOf, filepassBody}
 use Rattle.file_params.proofs.Laws.{asked-on, asked-stop, none-of-both}
 use Rattle.file_params.proofs.Tables.{given-passes, stream-number}
 use Rattle.excel97.specs.declared.Report.{Report}

@@ -4,7 +4,6 @@ use mathlib.Core.Path.{_≡_, refl, sym, ap, _∙_}
 use mathlib.Core.List.{List}
 use mathlib.Core.Logic.{_⊎_, inl, inr}
 use Prim.Native.Nat.{ℕ}
-use Rattle.file_params.specs.declared.Refusal.{Refusal}
 use Rattle.file_params.specs.Refusal.{number}
 use Rattle.excel97.specs.declared.Answer.{Answer}
 use Rattle.excel97.specs.declared.Answer.the-variants.{Opened, Refused}
