@@ -1,9 +1,11 @@
 // C exports of the hashes, of RC4, of XOR obfuscation and of the walk for the benchmark in bench/.
+#![tactic(auto)]
+
 ghost use Rattle.std.specs.Prelude.{◌≡◌, ◌&&◌, length};
 ghost use Rattle.laws.specs.Choice.{pick, within};
 ghost use Rattle.rc4.specs.Rc4.{keyed, made, enciphered, enciphered_halves};
-ghost use Rattle.sha1.specs.Sha1.{sha1};
-ghost use Rattle.md5.specs.Md5.{md5};
+ghost use Rattle.sha_1.specs.Sha1.{sha1};
+ghost use Rattle.md_5.specs.Md5.{md5};
 ghost use Rattle.xor_obfuscation.specs.Xor.{Transforms};
 ghost use Rattle.xor_obfuscation.specs.declared.Way.TheVariants.{Decrypt};
 ghost use Rattle.binary_office.specs.Walk.{walk};
@@ -15,7 +17,7 @@ use rc4::Keystream;
 pub extern "C" fn bench_sha1(m: &[u8], out: &mut [u8; 20])
     ensures { out.new ≡ sha1 m.now }
 {
-    *out = sha1::digest(m);
+    *out = sha_1::digest(m);
 }
 
 // The MD5 digest of a message.
@@ -23,7 +25,7 @@ pub extern "C" fn bench_sha1(m: &[u8], out: &mut [u8; 20])
 pub extern "C" fn bench_md5(m: &[u8], out: &mut [u8; 16])
     ensures { out.new ≡ md5 m.now }
 {
-    *out = md5::digest(m);
+    *out = md_5::digest(m);
 }
 
 // The bytes of src under the keystream of a key, into dst; false for a key of no such length.

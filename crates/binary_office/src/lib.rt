@@ -1,6 +1,8 @@
 // The record walk and Look: from the Rust source's binary_office.rs, its Excel part, with its names.
 // `BiffRecords` is its iterator: a struct that holds the stream and the position, over a core on plain
 // slices.
+#![tactic(auto)]
+
 ghost use Rattle.std.specs.Prelude.{◌≡◌, ◌+◌, ◌*◌, ◌^◌, ◌≤◌, ◌<◌, min, length, take, drop};
 ghost use Rattle.binary_office.specs.Fields.{le16_at, le32_at};
 ghost use Rattle.binary_office.specs.Walk.{step_at, next_of, next_at, walk, walked_of, never_encrypted, clear_len};
@@ -8,21 +10,21 @@ ghost use Rattle.binary_office.specs.Look.{version_of, bits_of, bits_in, size_of
 ghost use Rattle.binary_office.specs.SameLock.{same_bytes, same_lock};
 
 // A field of two bytes: its value, or that it is cut short.
-#[derive(Drop)]
+#[derive(Clone, Copy)]
 pub enum Field16 {
     Value(u16),
     Short,
 }
 
 // A field of four bytes: its value, or that it is cut short.
-#[derive(Drop)]
+#[derive(Clone, Copy)]
 pub enum Field32 {
     Value(u32),
     Short,
 }
 
 // What is at an offset of a stream: a record, by its id and length; a fault, by its place; the end.
-#[derive(Drop)]
+#[derive(Clone, Copy)]
 pub enum Step {
     Record(u16, u16),
     Fault(usize),
@@ -30,35 +32,35 @@ pub enum Step {
 }
 
 // How a walk ends: cleanly, at the end of the stream or at its padding, or at a fault's place.
-#[derive(Drop)]
+#[derive(Clone, Copy)]
 pub enum WalkEnd {
     Clean,
     Fault(usize),
 }
 
 // A whole walk: how many records there are, and how it ends.
-#[derive(Drop)]
+#[derive(Clone, Copy)]
 pub struct Walked {
     pub records: usize,
     pub end: WalkEnd,
 }
 
 // The version pair of a lock, if present.
-#[derive(Drop)]
+#[derive(Clone, Copy)]
 pub enum Version {
     Pair(u16, u16),
     NoVersion,
 }
 
 // The key size of a lock in bits, if present.
-#[derive(Drop)]
+#[derive(Clone, Copy)]
 pub enum KeySize {
     Bits(u32),
     NoSize,
 }
 
 // What a FILEPASS body says about the lock.
-#[derive(Drop)]
+#[derive(Clone, Copy)]
 pub struct Facts {
     pub xor: bool,
     pub version: Version,
@@ -67,7 +69,7 @@ pub struct Facts {
 
 // Where the scan of a book stops: at a FILEPASS, by where its body starts and the length that its header states; at an
 // id outside the seven; at what can't be read.
-#[derive(Drop)]
+#[derive(Clone, Copy)]
 pub enum Finding {
     Filepass(usize, u16),
     Other,
@@ -75,7 +77,7 @@ pub enum Finding {
 }
 
 // Whether a book is locked.
-#[derive(Drop)]
+#[derive(Clone, Copy)]
 pub enum Verdict {
     Yes(Facts),
     No,
@@ -421,7 +423,7 @@ pub fn same_lock(a: &[u8], b: &[u8]) -> bool
 
 // The records of a stream, one after the other: the source's iterator, as a struct that keeps the
 // borrowed stream with its position.
-#[derive(Drop)]
+#[derive(Clone, Copy)]
 pub struct BiffRecords<'a> {
     pub book: &'a [u8],
     pub pos: usize,
@@ -429,7 +431,7 @@ pub struct BiffRecords<'a> {
 
 // A step of the walker: the stream and the position after what was found, from which `biff_records` makes
 // the walker that goes on, and what was found.
-#[derive(Drop)]
+#[derive(Clone, Copy)]
 pub struct Stepped<'a> {
     pub book: &'a [u8],
     pub pos: usize,
@@ -437,7 +439,7 @@ pub struct Stepped<'a> {
 }
 
 // What is at an offset, and where the next header is; where there is no record, the offset itself.
-#[derive(Drop)]
+#[derive(Clone, Copy)]
 pub struct Reached {
     pub found: Step,
     pub next: usize,

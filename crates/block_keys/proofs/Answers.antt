@@ -16,8 +16,8 @@ use Rattle.laws.proofs.Choice.{taken, left, skip, stop, within_yes}
 use Rattle.laws.proofs.Offsets.{get_d_tabulate}
 use Rattle.sensitive.specs.declared.DerivedKey.{DerivedKey}
 use Rattle.sensitive.specs.Derived.{derived}
-use Rattle.sha1.specs.Sha1.{sha1}
-use Rattle.md5.specs.Md5.{md5}
+use Rattle.sha_1.specs.Sha1.{sha1}
+use Rattle.md_5.specs.Md5.{md5}
 use Rattle.rc4.specs.declared.Keystream.{Keystream}
 use Rattle.rc4.specs.declared.Made.{Made}
 use Rattle.rc4.specs.Rc4.{keyed, made, after, byte_from, keystream_byte, Applies, enciphered, enciphered_halves}

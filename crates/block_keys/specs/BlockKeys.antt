@@ -5,8 +5,8 @@ use Rattle.std.specs.Prelude.{◌≡◌, ℕ, zero, suc, ◌+◌, ◌-◌, ◌/�
 use Rattle.std.specs.Int.Bits.{bit_xor}
 use Rattle.laws.specs.Choice.{pick}
 use Rattle.laws.specs.Offsets.{tabulate}
-use Rattle.sha1.specs.Sha1.{sha1}
-use Rattle.md5.specs.Md5.{md5}
+use Rattle.sha_1.specs.Sha1.{sha1}
+use Rattle.md_5.specs.Md5.{md5}
 use Rattle.rc4.specs.Rc4.{keystream_byte}
 use Rattle.password_digest.specs.Digest.{sha1_of, md5_of}
 use Rattle.rc4_office97.specs.Keys as office97

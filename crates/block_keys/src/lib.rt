@@ -1,6 +1,8 @@
 // The keys of a stream's blocks and what is made with them: from the Rust source's rc4.rs, its trait
 // `BlockKeySchedule` with `verify_password` and `decrypt_in_blocks`, and the choice of the family, which the source
 // makes in each format's own file. The trait object is one value with a kind, the key bits and a 20-byte digest.
+#![tactic(auto)]
+
 ghost use Rattle.std.specs.Prelude.{◌≡◌, ◌++◌, ℕ, ◌+◌, ◌-◌, ◌*◌, ◌^◌, ◌≤◌, ◌<◌, min, ltb, length, get_or, replicate};
 ghost use Rattle.std.specs.Int.Bits.{bit_xor};
 ghost use Rattle.sensitive.specs.Derived.{derived};
@@ -14,14 +16,14 @@ ghost use Rattle.block_keys.specs.BlockKeys.{block_key, deciphered_at, started_b
 ghost use Rattle.block_keys.specs.Lock.{office97_lock, crypto_api_lock, unless, part, scheme_of, Schedules};
 
 // The family of an RC4 lock.
-#[derive(Drop)]
+#[derive(Clone, Copy)]
 pub enum Kind {
     Office97,
     CryptoApi,
 }
 
 // What the keys of all blocks are made from: 1.1 uses the digest's first five bytes.
-#[derive(Drop)]
+#[derive(Clone, Copy)]
 pub struct Schedule {
     pub kind: Kind,
     pub key_bits: u32,
@@ -30,7 +32,7 @@ pub struct Schedule {
 
 // What a structure says of its lock: the family, the key size, whether the summary is sealed, and where salt,
 // verifier and verifier hash are.
-#[derive(Drop)]
+#[derive(Clone, Copy)]
 pub struct Rc4Lock {
     pub kind: Kind,
     pub key_bits: u32,
@@ -41,7 +43,7 @@ pub struct Rc4Lock {
 }
 
 // What came of reading a structure.
-#[derive(Drop)]
+#[derive(Clone, Copy)]
 pub enum Scheme {
     Locked(Rc4Lock),
     Refused(file_params::Refusal),
@@ -145,14 +147,14 @@ fn same(a: &[u8], b: &[u8], n: usize) -> bool
 }
 
 // A schedule: ok says whether there is one.
-#[derive(Drop)]
+#[derive(Clone, Copy)]
 pub struct Scheduled {
     pub ok: bool,
     pub schedule: Schedule,
 }
 
 // The digest of a schedule: ok says whether there is one.
-#[derive(Drop)]
+#[derive(Clone, Copy)]
 struct Digest {
     ok: bool,
     bytes: [u8; 20],
@@ -287,11 +289,11 @@ pub fn verify_password(schedule: Schedule, verifier: [u8; 16], hash: [u8; 20]) -
     let kind = schedule.kind;
     match kind {
         Kind::Office97 => {
-            let digest = md5::digest(&plain);
+            let digest = md_5::digest(&plain);
             same(&digest, &plain_hash, 16)
         }
         Kind::CryptoApi => {
-            let digest = sha1::digest(&plain);
+            let digest = sha_1::digest(&plain);
             same(&digest, &plain_hash, 20)
         }
     }
@@ -309,7 +311,7 @@ pub fn verify(structure: &[u8], lock: Rc4Lock, schedule: Schedule) -> bool
 }
 
 // What a structure holds of a verifier: a digest of 16 bytes is followed by zeros.
-#[derive(Drop)]
+#[derive(Clone, Copy)]
 pub struct EncryptedVerifier {
     pub verifier: [u8; 16],
     pub hash: [u8; 20],
@@ -326,7 +328,7 @@ pub fn encrypt_verifier(schedule: Schedule, verifier: [u8; 16]) -> EncryptedVeri
     let kind = schedule.kind;
     match kind {
         Kind::Office97 => {
-            let md5_digest = md5::digest(&verifier);
+            let md5_digest = md_5::digest(&verifier);
             then.apply(&md5_digest, &mut hash);
             EncryptedVerifier {
                 verifier: enciphered,
@@ -334,7 +336,7 @@ pub fn encrypt_verifier(schedule: Schedule, verifier: [u8; 16]) -> EncryptedVeri
             }
         }
         Kind::CryptoApi => {
-            let sha1_digest = sha1::digest(&verifier);
+            let sha1_digest = sha_1::digest(&verifier);
             then.apply(&sha1_digest, &mut hash);
             EncryptedVerifier {
                 verifier: enciphered,

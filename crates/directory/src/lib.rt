@@ -1,5 +1,7 @@
 // The directory of sheets: request T-01 of document 02, over the record walk of binary_office. Nothing of it is in
 // the Rust source.
+#![tactic(auto)]
+
 ghost use Rattle.std.specs.Prelude.{◌≡◌, ◌+◌, ◌^◌, ◌≤◌, ◌<◌, [], eqb, leb, ltb, length, get_or};
 ghost use Rattle.std.proofs.Math.Option.{none};
 ghost use Rattle.laws.specs.Choice.{pick};
@@ -11,35 +13,35 @@ ghost use Rattle.directory.specs.Directory.{bound_sheets, starts, bof_at, unfit,
 ghost use Rattle.directory.specs.Steps.{found_of, paired_by, depth, unpaired_by, Counts, Tallies, NextSheet, Reaches};
 
 // The start of the sheet at a place, if there is one.
-#[derive(Drop)]
+#[derive(Clone, Copy)]
 pub enum Start {
     At(usize),
     Nothing,
 }
 
 // What is reported of a stream's sheets: how many there are, and the start of the one that was asked for.
-#[derive(Drop)]
+#[derive(Clone, Copy)]
 pub struct Sheets {
     pub count: usize,
     pub start: Start,
 }
 
 // What came of asking for a sheet.
-#[derive(Drop)]
+#[derive(Clone, Copy)]
 pub enum Answer {
     Told(Sheets),
     Refused(file_params::Refusal),
 }
 
 // How BOF and EOF pair up in the records so far: how many BOF are open, or the offset of an EOF with none open.
-#[derive(Drop)]
+#[derive(Clone, Copy)]
 enum Pairing {
     Open(usize),
     Unpaired(usize),
 }
 
 // A walk of the whole stream: how it ends, how many BoundSheet8 records there are, and how BOF and EOF pair up.
-#[derive(Drop)]
+#[derive(Clone, Copy)]
 struct Tally {
     end: binary_office::WalkEnd,
     sheets: usize,
@@ -47,14 +49,14 @@ struct Tally {
 }
 
 // An offset that was searched for.
-#[derive(Drop)]
+#[derive(Clone, Copy)]
 enum Found {
     Offset(usize),
     Nowhere,
 }
 
 // A BoundSheet8 record: the offset of its header, and the length of its body.
-#[derive(Drop)]
+#[derive(Clone, Copy)]
 enum Sheet {
     Record(usize, u16),
     Nothing,

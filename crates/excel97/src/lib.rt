@@ -1,6 +1,8 @@
 // Open: the plain stream of a protected workbook, from the Rust source's excel97.rs, with its names. The compound
 // file around the stream is left out, `book.clone()` is the output that the caller lends, and under RC4 password text
 // goes through the lent scratch.
+#![tactic(auto)]
+
 ghost use Rattle.std.specs.Prelude.{◌≡◌, ℕ, ◌+◌, ◌≤◌, true, ◌++◌, length, get_or, drop, replicate};
 ghost use Rattle.std.proofs.Math.Option.{none, some};
 ghost use Rattle.laws.specs.Choice.{pick};
@@ -18,7 +20,7 @@ ghost use Rattle.excel97.specs.Open.{xor_matches, array_of, xor_byte, in_record,
 ghost use Rattle.excel97.specs.Steps.{xor_lock_of, through_at, Through, ThroughRc4, Blanks, Unlocks, Ready, Settles};
 
 // The lock of a workbook.
-#[derive(Drop)]
+#[derive(Clone, Copy)]
 pub enum Lock {
     Xor,
     Office97,
@@ -26,7 +28,7 @@ pub enum Lock {
 }
 
 // What is reported of a stream that was opened.
-#[derive(Drop)]
+#[derive(Clone, Copy)]
 pub struct Report {
     pub records: usize,
     pub lock: Lock,
@@ -38,7 +40,7 @@ pub struct Report {
 }
 
 // The result of opening a stream.
-#[derive(Drop)]
+#[derive(Clone, Copy)]
 pub enum Answer {
     Opened(Report),
     Refused(file_params::Refusal),
@@ -117,7 +119,7 @@ fn zero(dst: &mut [u8], from: usize, to: usize)
 
 // What a password makes under XOR: whether it is one of 1 to 15 characters up to U+00FF, its key, its verifier and its
 // array; zeros where it is none.
-#[derive(Drop)]
+#[derive(Clone, Copy)]
 pub struct XorLock {
     pub ok: bool,
     pub key: u16,
@@ -151,7 +153,7 @@ pub fn xor_lock(password: &[u8]) -> XorLock
 }
 
 // A password tried on an XOR lock: whether it passes, and the array that it makes.
-#[derive(Drop)]
+#[derive(Clone, Copy)]
 struct Tried {
     ok: bool,
     array: [u8; 16],
@@ -329,7 +331,7 @@ fn unlock_xor(stream: &[u8], at: usize, len: u16, password: &[u8], output: &mut 
 }
 
 // A password that was tried on an RC4 lock: whether it passes, and how many block keys were derived in all.
-#[derive(Drop)]
+#[derive(Clone, Copy)]
 struct TriedRc4 {
     ok: bool,
     block_keys: usize,

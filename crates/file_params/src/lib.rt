@@ -1,11 +1,13 @@
 // The refusals: from the Rust source's file_params.rs, whose field and problem together name one, and from its
 // error's own cases. Document 01's questions 1 to 27, in its order; 1 to 3 and 5 are of what the caller lends, which
 // the source takes by type. 28 and 29 are of document 02's request T-01, 30 to 32 of T-07.
+#![tactic(auto)]
+
 ghost use Rattle.std.specs.Prelude.{◌≡◌};
 ghost use Rattle.file_params.specs.Refusal.{number, first, second};
 
 // Why a workbook stream is refused, with the details that go with the number.
-#[derive(Drop)]
+#[derive(Clone, Copy)]
 pub enum Refusal {
     PasswordTooLong,
     PasswordMalformed,
@@ -42,7 +44,7 @@ pub enum Refusal {
 }
 
 // The two details of a refusal.
-#[derive(Drop)]
+#[derive(Clone, Copy)]
 pub struct Details {
     pub first: u64,
     pub second: u64,

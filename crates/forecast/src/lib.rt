@@ -1,12 +1,14 @@
 // What opening a stream will take, without a password: request T-04 of document 02, over the survey that Open asks too.
 // Nothing of it is in the Rust source.
+#![tactic(auto)]
+
 ghost use Rattle.std.specs.Prelude.{◌≡◌, ◌^◌, ◌<◌};
 ghost use Rattle.forecast.specs.Forecast.{forecast};
 ghost use Rattle.forecast.specs.Steps.{keys_of};
 
 // What opening a stream will take: how many bytes of output, for how many records, how many bytes of their bodies to
 // decipher, and how many block keys to derive.
-#[derive(Drop)]
+#[derive(Clone, Copy)]
 pub struct Counts {
     pub output_bytes: usize,
     pub records: usize,
@@ -15,7 +17,7 @@ pub struct Counts {
 }
 
 // What came of asking for a forecast.
-#[derive(Drop)]
+#[derive(Clone, Copy)]
 pub enum Answer {
     Told(Counts),
     Refused(file_params::Refusal),

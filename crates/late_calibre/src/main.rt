@@ -1,13 +1,15 @@
 // Opens sheets with a table of calibres, one under each lock, and prints the lift angle of the last calibre, whose record
 // is past the first kilobyte, with what opening took; with another password it prints the refusal and no figure.
 // tools/make_late_calibre.py makes the data and what is expected.
+#![tactic(auto)]
+
 ghost use Rattle.std.specs.Prelude.{◌≡◌, length};
 
 use libc::STDOUT_FILENO;
 use samples::{number, part};
 
 // The lift angle in degrees, or none.
-#[derive(Drop)]
+#[derive(Clone, Copy)]
 enum Angle {
     Degrees(usize),
     NoAngle,

@@ -52,7 +52,8 @@ and_left false u e = e
 
 pub and_right : (t u : Bool) → (t && u) ≡ true → u ≡ true
 and_right true u e = e
-and_right false u e = elim u [ true ↦ refl | false ↦ e ]
+and_right false true e = refl
+and_right false false e = e
 
 -- one of two tests
 pub or_else : (t u : Bool) → (t || u) ≡ true → t ≡ false → u ≡ true

@@ -2,6 +2,8 @@
 // RC4_KEY_BITS is two numbers here, and RC4_ENCRYPTION_HEADER_SIZE_MIN is rc4_cryptoapi.rs's HEADER_FIXED_LEN. Two more
 // are of the customer's documents: PASSWORD_MAX_LEN (01) and SCRATCH_LEN (02, T-06). The tests of a header's size and of
 // a key size are next to their bounds, so that a wrong bound is refused here.
+#![tactic(auto)]
+
 ghost use Rattle.std.specs.Prelude.{◌≡◌, ◌&&◌, ◌||◌, ◌%◌, eqb};
 ghost use Rattle.laws.specs.Choice.{within};
 

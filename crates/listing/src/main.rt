@@ -1,5 +1,7 @@
 // Prints the listing of the stream in `book.bin`. What is printed is `listing_text::listing`'s; this
 // program only reads and writes.
+#![tactic(auto)]
+
 ghost use Rattle.std.specs.Prelude.{◌≡◌, length};
 
 use libc::STDOUT_FILENO;

@@ -1,5 +1,7 @@
 // The listing of a stream's records as text, into a lent buffer: what the programs `listing` and
 // `listings` print (document 01, "The walk and its listing").
+#![tactic(auto)]
+
 ghost use Rattle.std.specs.Prelude.{◌≡◌, [], ◌∷◌, ◌++◌, ℕ, ◌+◌, ◌*◌, ◌/◌, ◌%◌, ◌^◌, ◌≤◌, ◌<◌, length};
 ghost use Rattle.binary_office.specs.Walk.{BiffRecord, walk};
 ghost use Rattle.listing_text.specs.Text.{decimal, placed, hex_digit, hex4, line, unreadable, of_walk, text, Puts};

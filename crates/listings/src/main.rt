@@ -1,5 +1,7 @@
 // Prints the listings of the streams in its data, one after the other, each preceded by a line that numbers it
 // and gives its length. tools/make_listings.py makes the data and what is expected.
+#![tactic(auto)]
+
 ghost use Rattle.std.specs.Prelude.{◌≡◌, length};
 
 use libc::STDOUT_FILENO;

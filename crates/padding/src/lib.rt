@@ -1,11 +1,13 @@
 // The padding that SHA-1 (FIPS 180-4, section 5.1.1) and MD5 (RFC 1321, sections 3.1 and 3.2) share.
 // The source takes both hashes from libraries, so nothing here comes from it.
+#![tactic(auto)]
+
 ghost use Rattle.std.specs.Prelude.{◌≡◌, ◌++◌, ◌+◌, ◌-◌, ◌*◌, ◌%◌, ◌^◌, ◌≤◌, ◌<◌, length, drop, replicate};
 ghost use Rattle.std.proofs.Math.Seq.{paste};
 ghost use Rattle.padding.specs.Padding.{be64, le64, tail_of};
 
 // What follows the whole blocks of a message, padded: the first len bytes, which is 64 or 128.
-#[derive(Drop)]
+#[derive(Clone, Copy)]
 pub struct Tail {
     pub bytes: [u8; 128],
     pub len: usize,

@@ -5,8 +5,8 @@ use Rattle.std.proofs.Math.Option.{none, some}
 use Rattle.laws.specs.Choice.{pick}
 use Rattle.sensitive.specs.Utf8.{well_formed}
 use Rattle.sensitive.specs.Utf16.{encoded}
-use Rattle.sha1.specs.Sha1.{sha1}
-use Rattle.md5.specs.Md5.{md5}
+use Rattle.sha_1.specs.Sha1.{sha1}
+use Rattle.md_5.specs.Md5.{md5}
 
 -- the password in UTF-16LE; a text that is not well formed has no bytes
 unfoldable pub spelt : List ℕ → List ℕ

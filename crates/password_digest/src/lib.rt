@@ -1,26 +1,28 @@
 // The password's digest H0: from the Rust source's rc4_cryptoapi.rs and rc4_office97.rs, where it is the first
 // step of both key schedules, and held in sensitive.rs's PasswordDigest. The source encodes the password whole;
 // here its UTF-16LE text goes through 64 bytes of memory that the caller lends, a block at a time.
+#![tactic(auto)]
+
 ghost use Rattle.std.specs.Prelude.{◌≡◌, ℕ, ◌<◌, ◌≤◌, List, ◌++◌, length, drop, replicate, nat_le};
 ghost use Rattle.std.proofs.Math.Option.{some};
 ghost use Rattle.std.proofs.Math.Seq.{paste};
 ghost use Rattle.laws.specs.Choice.{pick};
 ghost use Rattle.padding.specs.Padding.{hash_end, be64, le64};
 ghost use Rattle.sensitive.specs.Utf16.{encoded};
-ghost use Rattle.sha1.specs.Sha1 as sha1;
-ghost use Rattle.md5.specs.Md5 as md5;
+ghost use Rattle.sha_1.specs.Sha1 as sha1;
+ghost use Rattle.md_5.specs.Md5 as md5;
 ghost use Rattle.password_digest.specs.Filling.{Steps, Fills};
 ghost use Rattle.password_digest.specs.Digest.{sha1_of, md5_of, Digests};
 
 // A SHA-1 digest: ok says whether there is one.
-#[derive(Drop)]
+#[derive(Clone, Copy)]
 pub struct Sha1Digest {
     pub ok: bool,
     pub bytes: [u8; 20],
 }
 
 // An MD5 digest: ok says whether there is one.
-#[derive(Drop)]
+#[derive(Clone, Copy)]
 pub struct Md5Digest {
     pub ok: bool,
     pub bytes: [u8; 16],
@@ -28,14 +30,14 @@ pub struct Md5Digest {
 
 // The next byte of a text in UTF-16LE and the next place, an offset of the text and how many bytes
 // of the character there are out; or that the text ends.
-#[derive(Drop)]
+#[derive(Clone, Copy)]
 enum Step {
     Byte(u8, usize, usize),
     Done,
 }
 
 // A place of the text, and how many bytes are in the block.
-#[derive(Drop)]
+#[derive(Clone, Copy)]
 struct Filled {
     at: usize,
     skip: usize,
@@ -111,14 +113,14 @@ fn sha1_text(salt: [u8; 16], text: &[u8], block: &mut [u8], total: u64) -> [u8; 
     ensures { (e : List ℕ) → encoded text.now ≡ some e → result ≡ sha1.output (hash_end sha1.compressed be64 sha1.start (salt ++ e) total) }
 {
     put_salt(salt, block);
-    let mut h = sha1::init();
+    let mut h = sha_1::init();
     let mut f = fill(text, 0, 0, block, 16);
     while f.n == 64 {
-        h = sha1::compress_all(h, block);
+        h = sha_1::compress_all(h, block);
         f = refill(text, f, block);
     }
     let n = f.n;
-    sha1::finish(h, &block[..n], total)
+    sha_1::finish(h, &block[..n], total)
 }
 
 // MD5 of a text in UTF-16LE, through a block; total is the number of bytes that is stated at the end.
@@ -126,14 +128,14 @@ fn md5_text(text: &[u8], block: &mut [u8], total: u64) -> [u8; 16]
     requires { length block.old ≡ 64 }
     ensures { (e : List ℕ) → encoded text.now ≡ some e → result ≡ md5.output (hash_end md5.compressed le64 md5.start e total) }
 {
-    let mut h = md5::init();
+    let mut h = md_5::init();
     let mut f = fill(text, 0, 0, block, 0);
     while f.n == 64 {
-        h = md5::compress_all(h, block);
+        h = md_5::compress_all(h, block);
         f = refill(text, f, block);
     }
     let n = f.n;
-    md5::finish(h, &block[..n], total)
+    md_5::finish(h, &block[..n], total)
 }
 
 // Zeroes the block at the start of the scratch.

@@ -1,6 +1,8 @@
 // The RC4 keystream: from the Rust source's rc4.rs, its `Keystream`. The source takes the cipher from a
 // library; this is written from document 01, and `Keystream` is tested against RFC 6229. Beside it `apply_key` and
 // `apply_halves`, which take keys and hand no table over.
+#![tactic(auto)]
+
 ghost use Rattle.std.specs.Prelude.{◌≡◌, ◌&&◌, ℕ, ◌+◌, ◌%◌, ◌^◌, ◌≤◌, ◌<◌, min, eqb, length, get_or};
 ghost use Rattle.std.specs.Int.Bits.{bit_xor};
 ghost use Rattle.laws.specs.Choice.{pick, within};
@@ -10,7 +12,7 @@ ghost use Rattle.rc4.specs.KeyIndex.{following_index};
 ghost use Rattle.rc4.specs.Steps.{MixedTo, StepsTo, given_halves};
 
 // A keystream under one key: the table, and the two indices into it.
-#[derive(Drop)]
+#[derive(Clone, Copy)]
 pub struct Keystream {
     pub table: [u8; 256],
     pub i: u8,
@@ -18,7 +20,7 @@ pub struct Keystream {
 }
 
 // What came of making a keystream: ok says whether there is one.
-#[derive(Drop)]
+#[derive(Clone, Copy)]
 pub struct Made {
     pub ok: bool,
     pub keystream: Keystream,
@@ -26,7 +28,7 @@ pub struct Made {
 
 // What a step of the key mixing carries to the next one: j, the index of the key byte that is next, and the entry at
 // the next i.
-#[derive(Drop)]
+#[derive(Clone, Copy)]
 struct Mixed {
     j: usize,
     index: usize,
@@ -34,7 +36,7 @@ struct Mixed {
 }
 
 // What a step of the keystream leaves: j, the entry at the next i, and the byte that the step gives.
-#[derive(Drop)]
+#[derive(Clone, Copy)]
 struct Stepped {
     j: usize,
     entry: u32,

@@ -10,7 +10,7 @@ use lib.Seq.{length-take-le}
 use Rattle.laws.specs.Choice.{within}
 use Rattle.laws.proofs.Choice.{taken, left, within_from, within_to}
 use Rattle.word.specs.Word.{le_bytes}
-use Rattle.sha1.specs.Sha1.{sha1, output}
+use Rattle.sha_1.specs.Sha1.{sha1, output}
 use Rattle.rc4_cryptoapi.specs.Keys.{hfinal, block_key}
 
 pub length_sha1 : (m : List ℕ) → length (sha1 m) ≡ 20

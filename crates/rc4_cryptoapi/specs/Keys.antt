@@ -3,7 +3,7 @@
 use Rattle.std.specs.Prelude.{ℕ, ◌/◌, List, ◌++◌, take, replicate}
 use Rattle.laws.specs.Choice.{pick, within}
 use Rattle.word.specs.Word.{le_bytes}
-use Rattle.sha1.specs.Sha1.{sha1}
+use Rattle.sha_1.specs.Sha1.{sha1}
 
 -- Hfinal = H(H0 + block), the block's number in four bytes
 abbrev pub hfinal : List ℕ → ℕ → List ℕ

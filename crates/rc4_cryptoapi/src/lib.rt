@@ -1,5 +1,7 @@
 // RC4 CryptoAPI (MS-OFFCRYPTO 2.3.5): from the Rust source's rc4_cryptoapi.rs, with its names. The header keeps the
 // places of salt, verifier and hash in the structure, and not copies of them.
+#![tactic(auto)]
+
 ghost use Rattle.std.specs.Prelude.{◌≡◌, ◌&&◌, ◌||◌, ◌++◌, ◌+◌, ◌-◌, ◌%◌, ◌≤◌, eqb, length, take, replicate};
 ghost use Rattle.std.specs.Int.Bits.{bit_and};
 ghost use Rattle.laws.specs.Choice.{pick, within};
@@ -28,7 +30,7 @@ const FLAG_EXTERNAL: u32 = 0x10;
 const FLAG_AES: u32 = 0x20;
 
 // What a structure says: the key size in bits, the flags, and where salt, verifier and its hash start.
-#[derive(Drop)]
+#[derive(Clone, Copy)]
 pub struct CryptoApiHeader {
     pub key_bits: u32,
     pub flags: u32,
@@ -38,7 +40,7 @@ pub struct CryptoApiHeader {
 }
 
 // What came of reading a structure.
-#[derive(Drop)]
+#[derive(Clone, Copy)]
 pub enum Parsed {
     Header(CryptoApiHeader),
     Refused(file_params::Refusal),
@@ -152,7 +154,7 @@ fn final_hash(h0: [u8; 20], block: u32) -> [u8; 20]
         h0[0], h0[1], h0[2], h0[3], h0[4], h0[5], h0[6], h0[7], h0[8], h0[9], h0[10], h0[11],
         h0[12], h0[13], h0[14], h0[15], h0[16], h0[17], h0[18], h0[19], b[0], b[1], b[2], b[3],
     ];
-    sha1::digest(&m)
+    sha_1::digest(&m)
 }
 
 // The first n bytes of a hash, followed by zeros.

@@ -11,7 +11,7 @@ use Rattle.laws.specs.Offsets.{tabulate}
 use Rattle.laws.proofs.Choice.{either}
 use Rattle.laws.proofs.Offsets.{length_tabulate, get_d_tabulate}
 use Rattle.word.specs.Word.{le_bytes}
-use Rattle.md5.specs.Md5.{md5, output}
+use Rattle.md_5.specs.Md5.{md5, output}
 use Rattle.rc4_office97.specs.Keys.{times, block_key}
 
 pub length_md5 : (m : List ℕ) → length (md5 m) ≡ 16

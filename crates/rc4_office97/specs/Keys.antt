@@ -2,7 +2,7 @@
 -- Assumes nothing.
 use Rattle.std.specs.Prelude.{ℕ, zero, suc, List, [], ◌++◌, take}
 use Rattle.word.specs.Word.{le_bytes}
-use Rattle.md5.specs.Md5.{md5}
+use Rattle.md_5.specs.Md5.{md5}
 
 -- a list n times over
 unfoldable pub times : ℕ → List ℕ → List ℕ

@@ -1,4 +1,6 @@
 // Office 97's RC4 (MS-OFFCRYPTO 2.3.6): from the Rust source's rc4_office97.rs, with its names.
+#![tactic(auto)]
+
 ghost use Rattle.std.specs.Prelude.{◌≡◌, ◌++◌, take};
 ghost use Rattle.sensitive.specs.Derived.{derived};
 ghost use Rattle.rc4_office97.specs.Keys.{times, truncated, block_key};
@@ -8,7 +10,7 @@ ghost use Rattle.rc4_office97.specs.Parse.{parsed};
 const HEADER_LEN: usize = 52;
 
 // The result of reading a structure: its fields are at fixed places, so there is no more to report.
-#[derive(Drop)]
+#[derive(Clone, Copy)]
 pub enum Parsed {
     Header,
     Refused(file_params::Refusal),
@@ -54,7 +56,7 @@ pub fn truncated_h1(h0: [u8; 16], salt: [u8; 16]) -> [u8; 5]
     ensures { result ≡ truncated h0 salt }
 {
     let m = repeated(unit(h0, salt));
-    let h = md5::digest(&m);
+    let h = md_5::digest(&m);
     [h[0], h[1], h[2], h[3], h[4]]
 }
 
@@ -74,6 +76,6 @@ pub fn block_key(truncated_h1: [u8; 5], block: u32) -> sensitive::DerivedKey
         b[2],
         b[3],
     ];
-    let bytes = md5::digest(&m);
+    let bytes = md_5::digest(&m);
     sensitive::DerivedKey { bytes, len: 16 }
 }

@@ -3,6 +3,8 @@
 // how many cases had each outcome, in how many Look's key size is judged by MS-OFFCRYPTO 2.3.5.1 and not by the Rust, in how
 // many the stream is padded and so judged by request T-05, how many forecasts refuse nothing, and how many cases differ.
 // oracle/README.md says how the sample is made.
+#![tactic(auto)]
+
 ghost use Rattle.std.specs.Prelude.{◌≡◌, length};
 
 use libc::STDOUT_FILENO;
@@ -16,7 +18,7 @@ fn data_buffer() -> [u8; 262144]
 
 // What came of a case: its outcome, whether Look's key size is judged by the standard and not by the Rust, whether the stream
 // is padded, and whether all is as it must be.
-#[derive(Drop)]
+#[derive(Clone, Copy)]
 struct Ran {
     answer: u32,
     by_standard: bool,
@@ -25,7 +27,7 @@ struct Ran {
 }
 
 // The result of a forecast: whether it refuses nothing, and whether it is as it must be.
-#[derive(Drop)]
+#[derive(Clone, Copy)]
 struct Foretold {
     told: bool,
     same: bool,

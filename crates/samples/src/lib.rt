@@ -1,11 +1,13 @@
 // What the test programs read their data with: a file into a lent buffer, a part of the data, a number.
 // It carries nothing of the source.
+#![tactic(auto)]
+
 ghost use Rattle.std.specs.Prelude.{◌≡◌, ◌<◌, ◌≤◌, ◌^◌, length};
 ghost use Rattle.laws.specs.Offsets.{tabulate};
 ghost use Rattle.samples.specs.Sample.{part_at, number_at, lent_at, Within};
 
 // What came of reading a file: how many bytes, or that it can't be read.
-#[derive(Drop)]
+#[derive(Clone, Copy)]
 pub enum Loaded {
     Bytes(usize),
     Failed,

@@ -1,5 +1,7 @@
 // Sealing: a plain workbook stream put under a password, with the lock in its zero record, as opening leaves one where
 // FILEPASS stood. Request T-07 of document 02; the Rust source only opens. The questions, the walk, the block loop and the record loop are Open's.
+#![tactic(auto)]
+
 ghost use Rattle.std.specs.Prelude.{◌≡◌, true, false, ◌&&◌, ◌++◌, ◌+◌, ◌≤◌, eqb, length};
 ghost use Rattle.std.proofs.Math.Option.{none, some};
 ghost use Rattle.laws.specs.Choice.{pick};
@@ -17,7 +19,7 @@ ghost use Rattle.sealing.specs.Seal.{zero_of, admitted, fits, Seals};
 ghost use Rattle.sealing.specs.Steps.{Put, xor_fields, office97_fields, crypto_api_head, crypto_api_fields, Room, Locks, Enciphers, LocksRc4, Ready, Settles};
 
 // The lock that a stream is sealed under; CryptoAPI with its major version and its key size.
-#[derive(Drop)]
+#[derive(Clone, Copy)]
 pub enum Choice {
     Xor,
     Office97,
@@ -25,7 +27,7 @@ pub enum Choice {
 }
 
 // What came of sealing a stream: what opening it will report, or a refusal.
-#[derive(Drop)]
+#[derive(Clone, Copy)]
 pub enum Answer {
     Sealed(excel97::Report),
     Refused(file_params::Refusal),
@@ -269,7 +271,7 @@ fn lock_xor(plain: &[u8], at: usize, lock: excel97::XorLock, output: &mut [u8])
 }
 
 // A stream that was put through RC4: the enciphered verifier and its digest, and how many block keys were derived.
-#[derive(Drop)]
+#[derive(Clone, Copy)]
 struct Enciphered {
     encrypted: block_keys::EncryptedVerifier,
     keys: usize,

@@ -1,6 +1,8 @@
 // Seals the plain streams in its data and compares the answer, the facts, the output and what is left of the scratch with
 // what is expected; opens what was sealed, with the same password and with another. Prints how many cases had each outcome,
 // and a line for each difference. tools/make_sealings.py makes the data and what is expected.
+#![tactic(auto)]
+
 ghost use Rattle.std.specs.Prelude.{◌≡◌, ◌≤◌, length};
 
 use libc::STDOUT_FILENO;
@@ -27,7 +29,7 @@ fn decimal(n: u64) {
 }
 
 // What came of sealing or opening: 0 or the refusal's number, and the facts of the report or the refusal's two details.
-#[derive(Drop)]
+#[derive(Clone, Copy)]
 struct Told {
     number: u32,
     facts: [u64; 7],

@@ -1,6 +1,8 @@
 // Password text: from the Rust source's sensitive.rs (UTF-16LE, wiping) and from the passwords of its
 // xor_obfuscation.rs. Where the source relies on `&str` and on `char`, the text is taken apart here by
 // RFC 3629. The source's wrapped buffers are memory that the caller lends.
+#![tactic(auto)]
+
 ghost use Rattle.std.specs.Prelude.{◌≡◌, ◌++◌, ◌+◌, ◌/◌, ◌%◌, ◌^◌, ◌<◌, ◌≤◌, leb, length, get_or, drop, replicate};
 ghost use Rattle.std.proofs.Math.Option.{none, some};
 ghost use Rattle.std.proofs.Math.Seq.{paste};
@@ -13,7 +15,7 @@ ghost use Rattle.sensitive.specs.Ansi.{ansi, ansi_of};
 
 // What is at an offset of a text: a character, by its code point and where the next one starts;
 // bytes that start no character; nothing.
-#[derive(Drop)]
+#[derive(Clone, Copy)]
 pub enum Char {
     Point(u32, usize),
     Malformed,
@@ -21,14 +23,14 @@ pub enum Char {
 }
 
 // A code point in UTF-16LE: its bytes, of which the first len count.
-#[derive(Drop)]
+#[derive(Clone, Copy)]
 pub struct Units {
     pub bytes: [u8; 4],
     pub len: usize,
 }
 
 // How many bytes a text takes in UTF-16LE.
-#[derive(Drop)]
+#[derive(Clone, Copy)]
 pub enum Length {
     Bytes(usize),
     Malformed,
@@ -36,7 +38,7 @@ pub enum Length {
 
 // What came of encoding a text into a buffer: how many bytes were written; the text is not well
 // formed; the buffer is shorter than the bytes that it takes.
-#[derive(Drop)]
+#[derive(Clone, Copy)]
 pub enum Encoded {
     Bytes(usize),
     Malformed,
@@ -44,14 +46,14 @@ pub enum Encoded {
 }
 
 // An XOR password: its bytes, of which the first len count. A len of 0 means that there is none.
-#[derive(Drop)]
+#[derive(Clone, Copy)]
 pub struct AnsiPassword {
     pub bytes: [u8; 16],
     pub len: usize,
 }
 
 // The key of one block: its bytes, of which the first len count, followed by zeros.
-#[derive(Drop)]
+#[derive(Clone, Copy)]
 pub struct DerivedKey {
     pub bytes: [u8; 16],
     pub len: usize,

@@ -1,5 +1,7 @@
 // The C interface: one thin function for each operation, documented in include/sheet.h. The caller lends a fixed
 // array of eight numbers for the facts.
+#![tactic(auto)]
+
 ghost use Rattle.std.specs.Prelude.{◌≡◌, replicate};
 ghost use Rattle.laws.specs.Choice.{pick};
 ghost use Rattle.binary_office.specs.Walk.{step_at};

@@ -1,6 +1,8 @@
 // Looks at the streams in its data, compares the lock of each with the one before, says what opening will take, and opens
 // them, through the C exports; prints for each the answers, what is left of the scratch, and the output.
 // tools/make_short_books.py makes the data and what is expected.
+#![tactic(auto)]
+
 ghost use Rattle.std.specs.Prelude.{◌≡◌, ◌≤◌, length};
 
 use libc::STDOUT_FILENO;

@@ -1,6 +1,8 @@
 // What a stream alone decides: questions 4 and 6 to 26 with the lock that they find, and the counts of what opening the
 // stream will take, in one pass over its records. From the Rust source's excel97.rs, the first steps of its `decrypt`;
 // the counts are request T-04 of document 02.
+#![tactic(auto)]
+
 ghost use Rattle.std.specs.Prelude.{◌≡◌};
 ghost use Rattle.laws.specs.Choice.{pick};
 ghost use Rattle.binary_office.specs.Walk.{walk};
@@ -10,14 +12,14 @@ ghost use Rattle.survey.specs.Survey.{enciphered_len, counts_of, scheme_by, surv
 ghost use Rattle.survey.specs.Steps.{found_on, other_on, tally_of, read_of, locked_by};
 
 // Whether a group of questions was passed.
-#[derive(Drop)]
+#[derive(Clone, Copy)]
 pub enum Checked {
     Fine,
     Refused(file_params::Refusal),
 }
 
 // The lock of a FILEPASS body.
-#[derive(Drop)]
+#[derive(Clone, Copy)]
 pub enum Scheme {
     Xor,
     Rc4(block_keys::Rc4Lock),
@@ -25,7 +27,7 @@ pub enum Scheme {
 
 // A stream that no question refuses: how many records it has and how many of their bytes are enciphered, where its
 // first FILEPASS is (the offset of its header, the length of its body), and the lock.
-#[derive(Drop)]
+#[derive(Clone, Copy)]
 pub struct Book {
     pub records: usize,
     pub enciphered: usize,
@@ -35,21 +37,21 @@ pub struct Book {
 }
 
 // What came of a survey.
-#[derive(Drop)]
+#[derive(Clone, Copy)]
 pub enum Surveyed {
     Locked(Book),
     Refused(file_params::Refusal),
 }
 
 // Where a record is, the first FILEPASS or a zero record: the offset of its header, and the length of its body.
-#[derive(Drop)]
+#[derive(Clone, Copy)]
 pub enum Found {
     At(usize, u16),
     Nothing,
 }
 
 // The first id before FILEPASS that is not one of the seven.
-#[derive(Drop)]
+#[derive(Clone, Copy)]
 enum Other {
     Id(u16),
     InOrder,
@@ -57,7 +59,7 @@ enum Other {
 
 // A walk of the whole stream: how it ends, how many records there are, how many of their bytes are enciphered, the
 // first FILEPASS, and the first id before it that is not one of the seven.
-#[derive(Drop)]
+#[derive(Clone, Copy)]
 struct Tally {
     end: binary_office::WalkEnd,
     records: usize,
@@ -67,7 +69,7 @@ struct Tally {
 }
 
 // What came of reading a FILEPASS body.
-#[derive(Drop)]
+#[derive(Clone, Copy)]
 enum Read {
     Scheme(Scheme),
     Refused(file_params::Refusal),
@@ -75,7 +77,7 @@ enum Read {
 
 // What a walk of the whole stream counts: how it ends, how many records there are, and how many of their bytes are
 // enciphered.
-#[derive(Drop)]
+#[derive(Clone, Copy)]
 pub struct Counts {
     pub end: binary_office::WalkEnd,
     pub records: usize,

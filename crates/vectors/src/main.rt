@@ -1,6 +1,8 @@
 // Runs the published vectors of MD5 (RFC 1321), SHA-1 (the NIST validation set) and RC4 (RFC 6229), and
 // what other programs make of texts and of XOR passwords, and prints how many of each set ran and how
 // many differ. tools/ has the scripts that make the data: make_vectors.py, make_texts.py, XorVectors.java.
+#![tactic(auto)]
+
 ghost use Rattle.std.specs.Prelude.{◌≡◌, ◌^◌, ◌<◌, ◌≤◌, length};
 
 use libc::STDOUT_FILENO;
@@ -10,7 +12,7 @@ use sensitive::Encoded;
 use xor_obfuscation::XorKey;
 
 // How many vectors of a set ran, and how many differ.
-#[derive(Drop)]
+#[derive(Clone, Copy)]
 struct Tally {
     run: u64,
     differ: u64,
@@ -35,7 +37,7 @@ fn md5_set(data: &[u8]) -> Tally {
     let mut at = 0;
     while at < data.len() {
         let len = number(data, at);
-        let got = md5::digest(part(data, at + 4, len));
+        let got = md_5::digest(part(data, at + 4, len));
         t = tallied(t, check::same(&got, part(data, at + 4 + len, 16)));
         at = at + 20 + len;
     }
@@ -47,7 +49,7 @@ fn sha1_set(data: &[u8]) -> Tally {
     let mut at = 0;
     while at < data.len() {
         let len = number(data, at);
-        let got = sha1::digest(part(data, at + 4, len));
+        let got = sha_1::digest(part(data, at + 4, len));
         t = tallied(t, check::same(&got, part(data, at + 4 + len, 20)));
         at = at + 24 + len;
     }
@@ -77,7 +79,7 @@ fn checkpoint(seed: [u8; 20]) -> [u8; 20] {
         let m = joined(a, b, c);
         a = b;
         b = c;
-        c = sha1::digest(&m);
+        c = sha_1::digest(&m);
         i += 1;
     }
     c

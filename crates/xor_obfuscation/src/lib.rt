@@ -1,5 +1,7 @@
 // XOR obfuscation, Method 1 (MS-OFFCRYPTO 2.3.7.1 to 2.3.7.3): from the Rust source's
 // xor_obfuscation.rs, with its names and tables.
+#![tactic(auto)]
+
 ghost use Rattle.std.specs.Prelude.{◌≡◌, List, ◌++◌, ℕ, ◌+◌, ◌-◌, ◌*◌, ◌/◌, ◌%◌, ◌^◌, ◌≤◌, ◌<◌, min, eqb, length, get_or, drop};
 ghost use Rattle.std.specs.Int.Bits.{bit_xor};
 ghost use Rattle.laws.specs.Choice.{pick};
@@ -31,14 +33,14 @@ pub const XOR_MATRIX: [u16; 105] = [
 ];
 
 // The key of a password: there is one for 1 to 15 bytes.
-#[derive(Drop)]
+#[derive(Clone, Copy)]
 pub enum XorKey {
     Key(u16),
     NoKey,
 }
 
 // Which way data is put through the array.
-#[derive(Drop)]
+#[derive(Clone, Copy)]
 pub enum Way {
     Decrypt,
     Encrypt,

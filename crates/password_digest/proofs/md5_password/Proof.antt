@@ -2,7 +2,7 @@
 -- Assumes nothing.
 use Rattle.std.proofs.Common.{◌≡◌, ℕ, List, length, sym, ◌∙◌, length-take-le, rules}
 use Rattle.padding.specs.Padding.{hash_end, le64}
-use Rattle.md5.specs.Md5.{start, compressed, output, md5}
+use Rattle.md_5.specs.Md5.{start, compressed, output, md5}
 use Rattle.password_digest.specs.Digest.{spelt, md5_of}
 use Rattle.password_digest.proofs.Answers.{is_spelt, not_spelt, too_short, malformed, digested}
 use Rattle.password_digest.proofs.md5_password.Statement.{statement}

@@ -4,8 +4,8 @@
 use Rattle.std.proofs.Common.{◌≡◌, ℕ, ◌+◌, ◌<◌, ◌≤◌, List, length, sym, ap, ◌∙◌, arith, length-take-le, rules}
 use Rattle.padding.specs.Padding.{hash_end, le64}
 use Rattle.padding.proofs.Size.{length_le64}
-use Rattle.md5.specs.declared.State.{State}
-use Rattle.md5.specs.Md5.{compressed, output}
+use Rattle.md_5.specs.declared.State.{State}
+use Rattle.md_5.specs.Md5.{compressed, output}
 use Rattle.password_digest.specs.Filling.{left}
 use Rattle.password_digest.proofs.Filling.{goes_start, Hashes, hashes_first, hashes_more, hashes_end}
 use Rattle.password_digest.proofs.md5_text.Statement.{statement}

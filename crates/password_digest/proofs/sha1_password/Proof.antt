@@ -4,7 +4,7 @@
 use Rattle.std.proofs.Common.{◌≡◌, ℕ, ◌+◌, ◌*◌, ◌%◌, ◌^◌, List, ◌++◌, length, sym, ◌∙◌, arith, length-append, length-take-le, rules}
 use Rattle.padding.specs.Padding.{hash_end, be64}
 use Rattle.padding.proofs.Size.{be64_mod}
-use Rattle.sha1.specs.Sha1.{start, compressed, output, sha1}
+use Rattle.sha_1.specs.Sha1.{start, compressed, output, sha1}
 use Rattle.password_digest.specs.Digest.{spelt, sha1_of}
 use Rattle.password_digest.proofs.Answers.{is_spelt, not_spelt, too_short, malformed, digested}
 use Rattle.password_digest.proofs.sha1_password.Statement.{statement}

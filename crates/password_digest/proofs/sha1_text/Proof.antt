@@ -4,8 +4,8 @@
 use Rattle.std.proofs.Common.{◌≡◌, ℕ, ◌+◌, ◌<◌, ◌≤◌, List, ◌++◌, length, sym, ap, ◌∙◌, arith, length-take-le, rules}
 use Rattle.padding.specs.Padding.{hash_end, be64}
 use Rattle.padding.proofs.Size.{length_be64}
-use Rattle.sha1.specs.declared.State.{State}
-use Rattle.sha1.specs.Sha1.{compressed, output}
+use Rattle.sha_1.specs.declared.State.{State}
+use Rattle.sha_1.specs.Sha1.{compressed, output}
 use Rattle.password_digest.specs.Filling.{left}
 use Rattle.password_digest.proofs.Filling.{goes_salted, Hashes, hashes_first, hashes_more, hashes_end}
 use Rattle.password_digest.proofs.sha1_text.Statement.{statement}

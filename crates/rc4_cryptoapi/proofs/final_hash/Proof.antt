@@ -5,7 +5,7 @@ use mathlib.Core.List.{List, [], ◌∷◌, ◌++◌}
 use Prim.Native.Nat.{ℕ}
 use lib.ListN.{length, get_or}
 use Rattle.laws.specs.Offsets.{tabulate}
-use Rattle.sha1.specs.Sha1.{sha1}
+use Rattle.sha_1.specs.Sha1.{sha1}
 use Rattle.laws.proofs.Offsets.{listed}
 use borrow.Author.Rules.{rules}
 use Rattle.rc4_cryptoapi.proofs.final_hash.Statement.{statement}

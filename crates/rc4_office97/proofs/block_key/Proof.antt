@@ -6,7 +6,7 @@ use Prim.Native.Nat.{ℕ}
 use lib.ListN.{length, get_or}
 use Rattle.laws.specs.Offsets.{tabulate}
 use Rattle.word.specs.Word.{le_bytes}
-use Rattle.md5.specs.Md5.{md5}
+use Rattle.md_5.specs.Md5.{md5}
 use Rattle.sensitive.specs.Derived.{derived}
 use Rattle.rc4_office97.specs.Keys.{block_key}
 use Rattle.laws.proofs.Offsets.{listed}

@@ -4,7 +4,7 @@ use mathlib.Core.Path.{◌≡◌, ap, ◌∙◌}
 use native.Mathlib.Omega.{arith}
 use lib.ListN.{length, take}
 use Rattle.laws.specs.Offsets.{tabulate}
-use Rattle.md5.specs.Md5.{md5}
+use Rattle.md_5.specs.Md5.{md5}
 use Rattle.rc4_office97.specs.Keys.{times, truncated}
 use Rattle.laws.proofs.Offsets.{heads}
 use Rattle.rc4_office97.proofs.Laws.{length_md5}

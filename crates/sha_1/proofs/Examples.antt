@@ -1,0 +1,20 @@
+-- The definition computes the examples that NIST publishes with FIPS 180: the message "abc", and the empty one.
+-- Assumes nothing.
+use mathlib.Core.Path.{◌≡◌, refl}
+use mathlib.Core.List.{[], ◌∷◌}
+use Rattle.laws.specs.Choice.{pick}
+use Rattle.word.specs.Word.{rotl, be32}
+use Rattle.padding.specs.Padding.{hash_end, be64}
+use Rattle.sha_1.specs.Sha1.{sha1}
+
+pub abc :
+    sha1 (0x61 ∷ 0x62 ∷ 0x63 ∷ [])
+    ≡ 0xa9 ∷ 0x99 ∷ 0x3e ∷ 0x36 ∷ 0x47 ∷ 0x06 ∷ 0x81 ∷ 0x6a ∷ 0xba ∷ 0x3e ∷ 0x25 ∷ 0x71 ∷ 0x78 ∷ 0x50 ∷ 0xc2 ∷ 0x6c ∷ 0x9c ∷ 0xd0 ∷ 0xd8 ∷ 0x9d ∷ []
+unfolding sha1 hash_end be64 be32 rotl pick
+abc = refl
+
+pub empty :
+    sha1 []
+    ≡ 0xda ∷ 0x39 ∷ 0xa3 ∷ 0xee ∷ 0x5e ∷ 0x6b ∷ 0x4b ∷ 0x0d ∷ 0x32 ∷ 0x55 ∷ 0xbf ∷ 0xef ∷ 0x95 ∷ 0x60 ∷ 0x18 ∷ 0x90 ∷ 0xaf ∷ 0xd8 ∷ 0x07 ∷ 0x09 ∷ []
+unfolding sha1 hash_end be64 be32 rotl pick
+empty = refl
