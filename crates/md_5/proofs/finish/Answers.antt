@@ -1,0 +1,24 @@
+-- `md_5::finish` meets its contract: the whole blocks, and then the padded end, of one block or two.
+-- Assumes nothing.
+use mathlib.Core.Path.{◌≡◌, ap, ◌∙◌}
+use native.Mathlib.Omega.{arith}
+use Prim.Native.Nat.{◌*◌}
+use lib.ListN.{length}
+use Rattle.padding.specs.Padding.{le64, tail_of}
+use Rattle.padding.specs.declared.Tail.{Tail}
+use Rattle.padding.proofs.Blocks.{tail_room, end_one, end_two}
+use Rattle.padding.proofs.Size.{length_le64}
+use Rattle.md_5.specs.Md5.{compressed, output}
+use borrow.Author.Rules.{rules}
+use Rattle.md_5.proofs.finish.Goals as goal
+
+pub returns-then-end-eq64 : goal.returns-then-end-eq64
+returns-then-end-eq64 c = let g : c.pad-end.result ≡ tail_of c.args.m.now (le64 (8 * c.args.total)) = c.pad-end.ensures ∙ ap (tail_of c.args.m.now) c.size_le.ensures in
+    c.to_bytes.ensures ∙ ap output (end_one compressed le64 length_le64 c.args.h c.args.m.now c.args.total c.compress_all-v.result
+    c.compress_at-v.result c.pad-end.result c.compress_all-v.ensures g c.compress_at-v.ensures c.if-end-eq64.true)
+
+pub returns : goal.returns
+returns c = let g : c.pad-end.result ≡ tail_of c.args.m.now (le64 (8 * c.args.total)) = c.pad-end.ensures ∙ ap (tail_of c.args.m.now) c.size_le.ensures in
+    c.to_bytes-2.ensures ∙ ap output (end_two compressed le64 length_le64 c.args.h c.args.m.now c.args.total c.compress_all-v.result
+    c.compress_at-v.result c.pad-end.result c.compress_all-v.ensures g c.compress_at-v.ensures
+    c.compress_at.result c.if-end-eq64.false c.compress_at.ensures)

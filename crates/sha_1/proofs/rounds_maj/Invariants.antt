@@ -1,0 +1,16 @@
+-- `sha_1::rounds_maj` meets its contract: each turn is one round more, with the function and the constant of these twenty.
+-- Assumes nothing.
+use borrow.Author.Rules.{rules}
+use mathlib.Core.Path.{◌≡◌, sym, ap, ◌∙◌}
+use Prim.Native.Nat.{ℕ, ◌≤◌, ◌-◌}
+use native.Mathlib.Omega.{arith}
+use Rattle.sha_1.specs.declared.State.{State}
+use Rattle.sha_1.specs.Sha1.{rounds}
+use Rattle.sha_1.proofs.Rounds.{f_maj, k_maj, one_more}
+use Rattle.sha_1.proofs.rounds_maj.Given as goal
+
+abbrev pub invariant-loop-t : goal.invariant-loop-t
+invariant-loop-t l = (40 ≤ l.t) × (l.t ≤ 60) × ((u : State) → l.initial.v ≡ rounds l.w u 40 → l.v ≡ rounds l.w u l.t)
+
+abbrev pub decreases-loop-t : goal.decreases-loop-t
+decreases-loop-t l = 60 - l.t

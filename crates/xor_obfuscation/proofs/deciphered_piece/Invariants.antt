@@ -1,0 +1,21 @@
+-- `xor_obfuscation::deciphered_piece` meets its contract: after i turns the first i bytes are deciphered.
+-- Assumes nothing.
+use borrow.Author.Rules.{rules}
+use mathlib.Core.Path.{◌≡◌, refl, sym, ◌∙◌}
+use native.Mathlib.Omega.{arith}
+use native.Mathlib.Nat.{le_of_eq}
+use Prim.Native.Nat.{ℕ, ◌+◌, ◌≤◌, ◌-◌}
+use lib.ListN.{length, get_or, take}
+use lib.Seq.{take_all}
+use Rattle.laws.specs.Offsets.{tabulate}
+use Rattle.laws.proofs.Offsets.{tabulate_store}
+use Rattle.xor_obfuscation.specs.declared.Way.TheVariants.{Decrypt}
+use Rattle.xor_obfuscation.specs.Xor.{ciphered}
+use Rattle.xor_obfuscation.proofs.deciphered_piece.Given as goal
+
+abbrev pub invariant-loop-i : goal.invariant-loop-i
+invariant-loop-i l = (l.i ≤ 16) × (length l.out ≡ 16)
+    × (take l.i l.out ≡ tabulate (λ (n : ℕ). ciphered Decrypt (get_or l.src (l.at + n) 0) (get_or l.twice (l.start + n) 0)) l.i)
+
+abbrev pub decreases-loop-i : goal.decreases-loop-i
+decreases-loop-i l = 16 - l.i

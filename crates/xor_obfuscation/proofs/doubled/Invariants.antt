@@ -1,0 +1,24 @@
+-- `xor_obfuscation::doubled` meets its contract: after i turns the first i bytes are those of the array, over and over.
+-- Assumes nothing.
+use borrow.Author.Rules.{rules}
+use mathlib.Core.Path.{◌≡◌, refl, sym, ap, ◌∙◌}
+use native.Mathlib.Omega.{arith}
+use native.Mathlib.Nat.{le_of_eq}
+use Prim.Native.Nat.{ℕ, ◌≤◌, ◌-◌, ◌%◌}
+use lib.ListN.{length, get_or, take}
+use lib.Seq.{take_all}
+use Rattle.laws.specs.Offsets.{tabulate}
+use Rattle.laws.proofs.Offsets.{tabulate_store}
+use Rattle.xor_obfuscation.proofs.doubled.Given as goal
+
+abbrev pub invariant-loop-i : goal.invariant-loop-i
+invariant-loop-i l = (l.i ≤ 16) × (length l.twice ≡ 32) × (take l.i l.twice ≡ tabulate (λ (n : ℕ). get_or l.array (n % 16) 0) l.i)
+
+abbrev pub decreases-loop-i : goal.decreases-loop-i
+decreases-loop-i l = 16 - l.i
+
+abbrev pub invariant-loop-i-2 : goal.invariant-loop-i-2
+invariant-loop-i-2 l = (16 ≤ l.i) × (l.i ≤ 32) × (length l.twice ≡ 32) × (take l.i l.twice ≡ tabulate (λ (n : ℕ). get_or l.array (n % 16) 0) l.i)
+
+abbrev pub decreases-loop-i-2 : goal.decreases-loop-i-2
+decreases-loop-i-2 l = 32 - l.i
