@@ -16,7 +16,6 @@ use Rattle.binary_office.specs.declared.Field16.TheVariants as two
 use Rattle.binary_office.specs.declared.Step.{Step}
 use Rattle.binary_office.specs.declared.Step.TheVariants as step
 use Rattle.binary_office.specs.declared.Facts.{Facts}
-use Rattle.binary_office.specs.declared.Verdict.{Verdict}
 use Rattle.binary_office.specs.declared.Verdict.TheVariants.{Yes, No, Unknown}
 use Rattle.binary_office.specs.declared.Finding.{Finding}
 use Rattle.binary_office.specs.declared.Finding.TheVariants.{Filepass, Other, Unreadable}

@@ -1,7 +1,7 @@
 -- The lock's facts, the scan and what a look finds, by the tests on the way.
 -- Assumes nothing.
 use mathlib.Core.Path.{◌≡◌, refl, sym, ap, ◌∙◌}
-use mathlib.Core.Bool.{Bool, true, false, not, ◌&&◌}
+use mathlib.Core.Bool.{true, false, not, ◌&&◌}
 use mathlib.Core.List.{List}
 use Prim.Native.Nat.{ℕ, zero, suc, ◌+◌, ◌-◌, ◌≤◌, ◌<◌, min}
 use native.Mathlib.Nat.{le_refl, sub-zero, zero-add}
@@ -11,13 +11,12 @@ use lib.ListN.{length, get_or, take, drop, length-take, length-drop}
 use lib.Seq.{take_all, get_or-take, get_or-drop, ext_get_or}
 use borrow.Author.Tests.{eq-eqb, ne_eqb, le-leb, lt-leb}
 use Rattle.laws.specs.Choice.{pick, within}
-use Rattle.laws.proofs.Choice.{stop, skip, either, same_or, within_yes, within_high}
+use Rattle.laws.proofs.Choice.{stop, skip, either, within_yes, within_high}
 use Rattle.binary_office.specs.declared.Field16.TheVariants as two
 use Rattle.binary_office.specs.declared.Version.{Version}
 use Rattle.binary_office.specs.declared.Version.TheVariants.{Pair, NoVersion}
 use Rattle.binary_office.specs.declared.KeySize.{KeySize}
 use Rattle.binary_office.specs.declared.KeySize.TheVariants.{Bits, NoSize}
-use Rattle.binary_office.specs.declared.Facts.{Facts}
 use Rattle.binary_office.specs.Fields.{le16_at, le32_at}
 use Rattle.binary_office.specs.Walk.{never_encrypted}
 use Rattle.binary_office.specs.declared.Field16.{Field16}

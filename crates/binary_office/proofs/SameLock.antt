@@ -21,11 +21,11 @@ use Rattle.binary_office.specs.declared.Finding.TheVariants.{Filepass, Other, Un
 use Rattle.binary_office.specs.declared.Verdict.{Verdict}
 use Rattle.binary_office.specs.declared.Verdict.TheVariants.{Yes, No, Unknown}
 use Rattle.binary_office.specs.Fields.{le32_at}
-use Rattle.binary_office.specs.Look.{facts_of, found, capped, verdict_of, look}
+use Rattle.binary_office.specs.Look.{facts_of, found, capped, look}
 use Rattle.binary_office.specs.KeySizes.{LooksAt}
 use Rattle.binary_office.specs.SharedLocks.{TwoBodies, SharedLocks}
 use Rattle.binary_office.specs.SameLock.{same_version, same_size, same_facts, same_verdict, facts_agree, body_found, capped_body, same_bytes, same_lock}
-use Rattle.binary_office.proofs.Bodies.{impossible, finds, Finds, yes_finds, yes_starts}
+use Rattle.binary_office.proofs.Bodies.{impossible, finds, yes_finds, yes_starts}
 use Rattle.binary_office.proofs.Locks.{look_found}
 
 -- equal bytes are one list

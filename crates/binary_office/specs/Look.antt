@@ -1,6 +1,6 @@
 -- Look of document 01 ("Look: is the book locked"), with key size 0 as document 02 has it (T-03).
 -- Assumes nothing.
-use Rattle.std.specs.Prelude.{ℕ, zero, suc, ◌+◌, Bool, true, false, not, ◌&&◌, List, eqb, leb, length, take, drop}
+use Rattle.std.specs.Prelude.{ℕ, zero, suc, ◌+◌, true, false, not, ◌&&◌, List, eqb, leb, length, take, drop}
 use Rattle.laws.specs.Choice.{pick, within}
 use Rattle.binary_office.specs.Fields.{le16_at, le32_at}
 use Rattle.binary_office.specs.Walk.{never_encrypted}

@@ -1,6 +1,6 @@
 -- Document 02, T-08: what Same lock says of two streams, by the FILEPASS bodies that their looks read, and beside Same lock of document 01 (`facts_agree`).
 -- Assumes nothing.
-use Rattle.std.specs.Prelude.{◌≡◌, ℕ, Bool, true, false, List, take}
+use Rattle.std.specs.Prelude.{◌≡◌, ℕ, true, false, List, take}
 use Rattle.binary_office.specs.declared.Field32.TheVariants as four
 use Rattle.binary_office.specs.declared.Version.TheVariants.{Pair}
 use Rattle.binary_office.specs.declared.Facts.{Facts}

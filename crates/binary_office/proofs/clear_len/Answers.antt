@@ -4,7 +4,6 @@ use mathlib.Core.Path.{refl, sym, ◌∙◌}
 use borrow.Author.Tests.{eq-eqb, ne_eqb}
 use Rattle.laws.proofs.Choice.{stop, skip}
 use Rattle.binary_office.specs.Walk.{clear_len}
-use borrow.Author.Rules.{rules}
 use Rattle.binary_office.proofs.clear_len.Goals as goal
 
 pub returns-then-never_encrypted : goal.returns-then-never_encrypted

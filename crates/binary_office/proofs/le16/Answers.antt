@@ -2,7 +2,6 @@
 -- Assumes nothing.
 use native.Mathlib.Omega.{arith}
 use Rattle.binary_office.proofs.Headers.{le16_short, le16_value}
-use borrow.Author.Rules.{rules}
 use Rattle.binary_office.proofs.le16.Goals as goal
 
 pub returns-then-s-lt2 : goal.returns-then-s-lt2

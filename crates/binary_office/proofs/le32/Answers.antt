@@ -2,7 +2,6 @@
 -- Assumes nothing.
 use native.Mathlib.Omega.{arith}
 use Rattle.binary_office.proofs.Headers.{le32_short, le32_value}
-use borrow.Author.Rules.{rules}
 use Rattle.binary_office.proofs.le32.Goals as goal
 
 pub returns-then-s-lt4 : goal.returns-then-s-lt4

@@ -2,11 +2,7 @@
 -- Assumes nothing.
 use mathlib.Core.Path.{◌≡◌}
 use Prim.Native.Nat.{ℕ, ◌-◌, ◌≤◌, ◌<◌}
-use native.Mathlib.Omega.{arith}
-use lib.ListN.{length, get_or, get_or-eq_default}
-use borrow.Author.Rules.{rules}
-use Rattle.laws.proofs.Choice.{either, same_or}
-use Rattle.binary_office.proofs.Headers.{step_end, step_short}
+use lib.ListN.{length, get_or}
 use Rattle.binary_office.proofs.rest_at.Given as goal
 
 abbrev pub invariant-loop-i : goal.invariant-loop-i

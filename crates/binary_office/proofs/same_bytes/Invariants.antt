@@ -1,14 +1,8 @@
 -- `binary_office::same_bytes` meets its contract: after i turns the first i bytes were the same, and slices of one length with the same bytes are one list.
 -- Assumes nothing.
-use mathlib.Core.Path.{◌≡◌, sym, ap, ◌∙◌}
-use Prim.Native.Nat.{ℕ, ◌+◌, ◌-◌, ◌≤◌, ◌<◌}
-use native.Mathlib.Omega.{arith}
-use mathlib.Core.List.{List}
+use mathlib.Core.Path.{◌≡◌}
+use Prim.Native.Nat.{ℕ, ◌-◌, ◌≤◌, ◌<◌}
 use lib.ListN.{length, get_or}
-use lib.Seq.{ext_get_or}
-use borrow.Author.Rules.{rules}
-use Rattle.laws.proofs.Choice.{same_or}
-use Rattle.binary_office.proofs.SameLock.{equal_bytes, other_bytes}
 use Rattle.binary_office.proofs.same_bytes.Given as goal
 
 abbrev pub invariant-loop-i : goal.invariant-loop-i

@@ -1,14 +1,9 @@
 -- `binary_office::scan` meets its contract: at each header the scan from there is the scan from the start, and each way out is one case of it.
 -- Assumes nothing.
-use borrow.Author.Rules.{rules}
-use mathlib.Core.Path.{◌≡◌, refl, sym, ap, ◌∙◌}
-use native.Mathlib.Omega.{arith}
+use mathlib.Core.Path.{◌≡◌}
 use Prim.Native.Nat.{◌≤◌, ◌-◌}
 use lib.ListN.{length}
-use borrow.Author.Tests.{not-true, not-false}
 use Rattle.binary_office.specs.Look.{scan_at}
-use Rattle.binary_office.proofs.Locks.{scan_no_id, scan_no_len, scan_found, scan_absent, scan_past, scan_on}
-use Rattle.binary_office.proofs.Headers.{le16_within}
 use Rattle.binary_office.proofs.scan.Given as goal
 
 abbrev pub invariant-loop-id : goal.invariant-loop-id

@@ -1,7 +1,6 @@
 -- `binary_office::size_of` meets its contract: the version has a key size, or it has none.
 -- Assumes nothing.
 use Rattle.binary_office.proofs.Locks.{size_other, size_in}
-use borrow.Author.Rules.{rules}
 use Rattle.binary_office.proofs.size_of.Goals as goal
 
 pub returns-then-sized : goal.returns-then-sized

@@ -1,11 +1,8 @@
 -- `binary_office::walk` meets its contract: the records passed, and those of the walk from the offset on, make the whole walk.
 -- Assumes nothing.
-use borrow.Author.Rules.{rules}
 use mathlib.Core.Path.{sym, ◌∙◌}
 use native.Mathlib.Omega.{arith}
-use Prim.Native.Nat.{◌-◌}
-use lib.ListN.{length}
-use Rattle.binary_office.proofs.Walks.{Passed, passed_none, passed_on, passed_end, passed_fault, record_within}
+use Rattle.binary_office.proofs.Walks.{passed_on, passed_end, passed_fault, record_within}
 use Rattle.binary_office.proofs.walk.Goals as goal
 
 pub returns-in-End : goal.returns-in-End
