@@ -106,15 +106,14 @@ table_unmixed key e = ap (λ (m : Made). m.keystream.table) (skip _ e refl)
 -- the answer is put together from whether the length fits, the table, and both indices at 0
 pub made_of : (key t : List ℕ) (ok : Bool) → ok ≡ within 5 16 (length key) → t ≡ (made key).keystream.table
     → record { ok = ok; keystream = record { table = t; i = 0; j = 0 } } ≡ made key
-unfolding made keyed pick
-made_of key t ok e g = rw (g, e) (parts (within 5 16 (length key)))
-  where
-    answer : Bool → Made
-    answer fits = pick fits (record { ok = true; keystream = keyed key }) (record { ok = false; keystream = record { table = identity; i = 0; j = 0 } })
-
-    parts : (fits : Bool) → record { ok = fits; keystream = record { table = (answer fits).keystream.table; i = 0; j = 0 } } ≡ answer fits
-    parts true = refl
-    parts false = refl
+unfolding made
+made_of key t true e g =
+    let fits : within 5 16 (length key) ≡ true = sym e in
+    ap (λ (u : List ℕ). record { ok = true; keystream = record { table = u; i = 0; j = 0 } }) (g ∙ sym (table_mixed key fits))
+    ∙ made_keyed key (within_from 5 16 (length key) fits) (within_to 5 16 (length key) fits)
+made_of key t false e g =
+    let unfit : within 5 16 (length key) ≡ false = sym e in
+    ap (λ (u : List ℕ). record { ok = false; keystream = record { table = u; i = 0; j = 0 } }) (g ∙ sym (table_unmixed key unfit)) ∙ skip _ unfit refl
 
 -- a key that fits has bytes
 pub some_bytes : (key : List ℕ) → within 5 16 (length key) ≡ true → 0 < length key

@@ -1,6 +1,5 @@
 -- `rc4::apply_both` meets its contract: the keystreams' bytes, and then exclusive-or the source's.
 -- Assumes nothing.
-use borrow.Author.Rules.{rules}
 use mathlib.Core.Path.{◌≡◌, ap}
 use Prim.Native.Nat.{ℕ, ◌/◌}
 use Rattle.rc4.specs.Rc4.{half}

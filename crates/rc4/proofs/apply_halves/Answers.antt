@@ -1,20 +1,24 @@
 -- `rc4::apply_halves` meets its contract: both keys' lengths were asked, and the tables are those of the keys.
 -- Assumes nothing.
-use borrow.Author.Rules.{rules}
-use mathlib.Core.Path.{◌≡◌, refl, sym, ◌∙◌}
-use mathlib.Core.Bool.{true, false}
+use mathlib.Core.Path.{refl, ◌∙◌}
 use native.Mathlib.Omega.{arith}
-use borrow.Author.Tests.{not-true, not-false}
-use lib.ListN.{length}
-use Rattle.laws.specs.Choice.{within}
 use Rattle.laws.proofs.Choice.{stop, skip}
 use Rattle.rc4.proofs.Halves.{halves_keyed}
 use Rattle.rc4.proofs.Rearranged.{mixing_rearranged}
-use Rattle.rc4.proofs.Table.{some_bytes}
 use Rattle.rc4.proofs.apply_halves.Goals as goal
 
 pub apply_both-requires : goal.apply_both-requires
 apply_both-requires c = (
-      rw c.mix_both.ensures.0 (mixing_rearranged c.args.key.now 256 (omega arith)),
-      rw c.mix_both.ensures.1 (mixing_rearranged c.args.other.now 256 (omega arith)),
-    )
+  rw c.mix_both.ensures.0 (mixing_rearranged c.args.key.now 256 (omega arith)),
+  rw c.mix_both.ensures.1 (mixing_rearranged c.args.other.now 256 (omega arith)),
+)
+
+pub returns-then-not-fits-clause-dst_after : goal.returns-then-not-fits-clause-dst_after
+returns-then-not-fits-clause-dst_after c = skip _ refl refl
+
+pub returns-then-not-fits-2-clause-dst_after : goal.returns-then-not-fits-2-clause-dst_after
+returns-then-not-fits-2-clause-dst_after c = skip _ refl refl
+
+pub returns-clause-dst_after : goal.returns-clause-dst_after
+returns-clause-dst_after c =
+    halves_keyed c.args.key.now c.args.other.now _ _ c.args.src.now c.args.dst.now _ c.mix_both.ensures.0 c.mix_both.ensures.1 c.apply_both.ensures ∙ stop _ refl

@@ -1,13 +1,9 @@
 -- `rc4::exclusive_or` meets its contract: after k turns the first k bytes are written, and the others are as they were.
 -- Assumes nothing.
-use borrow.Author.Rules.{rules}
-use mathlib.Core.Path.{◌≡◌, ap}
-use native.Mathlib.Omega.{arith}
-use native.Mathlib.Nat.{le_refl}
 use Prim.Native.Nat.{ℕ, ◌≤◌, ◌-◌}
 use lib.Bits.{bit_xor}
 use lib.ListN.{get_or}
-use Rattle.laws.proofs.Written.{Written, written_none, written_more}
+use Rattle.laws.proofs.Written.{Written}
 use Rattle.rc4.proofs.exclusive_or.Given as goal
 
 abbrev pub invariant-loop-k : goal.invariant-loop-k

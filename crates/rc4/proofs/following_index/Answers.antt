@@ -1,6 +1,5 @@
 -- `rc4::following_index` meets its contract: the index before the key's end is the one that one more takes to it.
 -- Assumes nothing.
-use borrow.Author.Rules.{rules}
 use mathlib.Core.Path.{◌≡◌, sym}
 use Prim.Native.Nat.{◌+◌}
 use native.Mathlib.Omega.{arith}

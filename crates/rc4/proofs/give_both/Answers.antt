@@ -2,15 +2,13 @@
 -- written.
 -- Assumes nothing.
 use borrow.Author.Rules.{rules}
-use mathlib.Core.Path.{◌≡◌, refl, sym, ◌∙◌}
+use mathlib.Core.Path.{refl}
 use native.Mathlib.Omega.{arith}
-use Prim.Native.Nat.{◌+◌, ◌≤◌, ◌-◌, ◌%◌}
-use lib.ListN.{length-set}
 use Rattle.rc4.specs.declared.Keystream.{Keystream}
 use Rattle.rc4.specs.Steps.{given_halves}
-use Rattle.rc4.proofs.Halves.{Sides, sides_none, sides_more, sides_all, first_half, second_half}
+use Rattle.rc4.proofs.Halves.{sides_none, sides_more, first_half, second_half}
 use Rattle.rc4.proofs.Rearranged.{rearranged_length}
-use Rattle.rc4.proofs.Steps.{SteppedTo, stepped_none, stepped_more, stepped_byte}
+use Rattle.rc4.proofs.Steps.{stepped_none, stepped_more, stepped_byte}
 use Rattle.rc4.proofs.give_both.Goals as goal
 
 pub bounds-s-1 : goal.bounds-s-1

@@ -1,20 +1,15 @@
 -- `rc4::give_both` meets its contract: after k turns the tables and the locals are the two keystreams after k bytes, and the first k bytes of each half are
 -- written.
 -- Assumes nothing.
-use borrow.Author.Rules.{rules}
-use mathlib.Core.Path.{◌≡◌, refl, sym, ◌∙◌}
-use native.Mathlib.Omega.{arith}
+use mathlib.Core.Path.{◌≡◌}
 use Prim.Native.Nat.{◌+◌, ◌≤◌, ◌-◌, ◌%◌}
-use lib.ListN.{length-set}
-use Rattle.rc4.specs.declared.Keystream.{Keystream}
 use Rattle.rc4.specs.Steps.{given_halves}
-use Rattle.rc4.proofs.Halves.{Sides, sides_none, sides_more, sides_all, first_half, second_half}
-use Rattle.rc4.proofs.Rearranged.{rearranged_length}
-use Rattle.rc4.proofs.Steps.{SteppedTo, stepped_none, stepped_more, stepped_byte}
+use Rattle.rc4.proofs.Halves.{Sides}
+use Rattle.rc4.proofs.Steps.{SteppedTo}
 use Rattle.rc4.proofs.give_both.Given as goal
 
 abbrev pub invariant-loop-k : goal.invariant-loop-k
-invariant-loop-k l =     (l.k ≤ l.h) × (l.i ≡ (l.k + 1) % 256) × (l.m ≡ l.k + l.h)
+invariant-loop-k l = (l.k ≤ l.h) × (l.i ≡ (l.k + 1) % 256) × (l.m ≡ l.k + l.h)
     × SteppedTo (record { table = l.initial.s; i = 0; j = 0 }) l.k l.first l.s
     × SteppedTo (record { table = l.initial.t; i = 0; j = 0 }) l.k l.second l.t
     × Sides (given_halves (record { table = l.initial.s; i = 0; j = 0 }) (record { table = l.initial.t; i = 0; j = 0 }) l.h) l.h l.k l.initial.dst l.dst

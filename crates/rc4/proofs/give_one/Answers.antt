@@ -1,14 +1,13 @@
 -- `rc4::give_one` meets its contract: after k turns the table and the locals are the keystream after k bytes, and the first k bytes are written.
 -- Assumes nothing.
 use borrow.Author.Rules.{rules}
-use mathlib.Core.Path.{◌≡◌, refl, sym, ◌∙◌}
+use mathlib.Core.Path.{refl}
 use native.Mathlib.Omega.{arith}
-use Prim.Native.Nat.{◌+◌, ◌≤◌, ◌-◌, ◌%◌}
-use Rattle.laws.proofs.Written.{Written, written_none, written_more}
+use Rattle.laws.proofs.Written.{written_none, written_more}
 use Rattle.rc4.specs.declared.Keystream.{Keystream}
 use Rattle.rc4.specs.Rc4.{byte_from}
 use Rattle.rc4.proofs.Rearranged.{rearranged_length}
-use Rattle.rc4.proofs.Steps.{SteppedTo, stepped_none, stepped_more, stepped_byte}
+use Rattle.rc4.proofs.Steps.{stepped_none, stepped_more, stepped_byte}
 use Rattle.rc4.proofs.give_one.Goals as goal
 
 pub bounds-t-1 : goal.bounds-t-1

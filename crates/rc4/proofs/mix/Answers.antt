@@ -1,7 +1,6 @@
 -- `rc4::mix` meets its contract: the key byte at the carried index is document 01's, the two stores are the swap, and the entry that was loaded ahead of
 -- them is the one that is there after them.
 -- Assumes nothing.
-use borrow.Author.Rules.{rules}
 use mathlib.Core.Path.{◌≡◌, refl, ap, ◌∙◌}
 use native.Mathlib.Omega.{arith}
 use Prim.Native.Nat.{ℕ, ◌+◌, ◌%◌, ◌<◌}

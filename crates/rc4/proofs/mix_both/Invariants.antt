@@ -1,12 +1,8 @@
 -- `rc4::mix_both` meets its contract: after i turns the tables and the locals are both mixings after the first i values.
 -- Assumes nothing.
-use borrow.Author.Rules.{rules}
-use mathlib.Core.Path.{◌≡◌, sym, ap, ◌∙◌}
-use native.Mathlib.Omega.{arith}
-use Prim.Native.Nat.{◌+◌, ◌≤◌, ◌-◌, ◌%◌}
-use Rattle.rc4.specs.Rc4.{Mixing}
+use mathlib.Core.Path.{◌≡◌}
+use Prim.Native.Nat.{◌≤◌, ◌-◌, ◌%◌}
 use Rattle.rc4.specs.Steps.{MixedTo}
-use Rattle.rc4.proofs.Steps.{mixed_none}
 use Rattle.rc4.proofs.mix_both.Given as goal
 
 abbrev pub invariant-loop-i : goal.invariant-loop-i

@@ -1,12 +1,7 @@
 -- `rc4::mix_one` meets its contract: after i turns the table and the locals are the mixing after the first i values.
 -- Assumes nothing.
-use borrow.Author.Rules.{rules}
-use mathlib.Core.Path.{◌≡◌, sym, ap, ◌∙◌}
-use native.Mathlib.Omega.{arith}
 use Prim.Native.Nat.{◌≤◌, ◌-◌}
-use Rattle.rc4.specs.Rc4.{Mixing}
 use Rattle.rc4.specs.Steps.{MixedTo}
-use Rattle.rc4.proofs.Steps.{mixed_none}
 use Rattle.rc4.proofs.mix_one.Given as goal
 
 abbrev pub invariant-loop-i : goal.invariant-loop-i

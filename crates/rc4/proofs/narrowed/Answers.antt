@@ -3,9 +3,9 @@
 use borrow.Author.Rules.{rules}
 use mathlib.Core.Path.{◌≡◌, refl, sym, ◌∙◌}
 use native.Mathlib.Omega.{arith}
-use Prim.Native.Nat.{ℕ, ◌≤◌, ◌-◌}
+use Prim.Native.Nat.{ℕ}
 use native.Mathlib.Nat.{le_of_eq, mod-eq_of_lt}
-use lib.ListN.{length, get_or, take, length-set}
+use lib.ListN.{get_or, length-set}
 use lib.Seq.{take_all}
 use Rattle.laws.specs.Offsets.{tabulate}
 use Rattle.laws.proofs.Offsets.{tabulate_store, listed}
@@ -22,10 +22,10 @@ bounds-t-i c = let entries = rearranged_length _ c.requires in
 
 pub loop-i-preserved : goal.loop-i-preserved
 loop-i-preserved c = (
-      search rules,
-      simp length-set c.loop-i.invariant.1,
-      tabulate_store (λ (n : ℕ). get_or c.args.t.now n 0) c.loop-i.bytes c.loop-i.i _ (omega arith) c.loop-i.invariant.2 (mod-eq_of_lt (rearranged_small c.args.t.now c.loop-i.i c.requires)),
-    )
+  search rules,
+  simp length-set c.loop-i.invariant.1,
+  tabulate_store (λ (n : ℕ). get_or c.args.t.now n 0) c.loop-i.bytes c.loop-i.i _ (omega arith) c.loop-i.invariant.2 (mod-eq_of_lt (rearranged_small c.args.t.now c.loop-i.i c.requires)),
+)
 
 pub returns : goal.returns
 returns c = let e : c.loop-i.i ≡ 256 = omega arith in

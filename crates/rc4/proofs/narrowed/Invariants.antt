@@ -1,15 +1,9 @@
 -- `rc4::narrowed` meets its contract: after i turns the first i entries are copied, none of which is above 255.
 -- Assumes nothing.
-use borrow.Author.Rules.{rules}
-use mathlib.Core.Path.{◌≡◌, refl, sym, ◌∙◌}
-use native.Mathlib.Omega.{arith}
+use mathlib.Core.Path.{◌≡◌}
 use Prim.Native.Nat.{ℕ, ◌≤◌, ◌-◌}
-use native.Mathlib.Nat.{le_of_eq, mod-eq_of_lt}
-use lib.ListN.{length, get_or, take, length-set}
-use lib.Seq.{take_all}
+use lib.ListN.{length, get_or, take}
 use Rattle.laws.specs.Offsets.{tabulate}
-use Rattle.laws.proofs.Offsets.{tabulate_store, listed}
-use Rattle.rc4.proofs.Rearranged.{rearranged_small, rearranged_length}
 use Rattle.rc4.proofs.narrowed.Given as goal
 
 abbrev pub invariant-loop-i : goal.invariant-loop-i

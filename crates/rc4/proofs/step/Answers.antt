@@ -1,12 +1,11 @@
 -- `rc4::step` meets its contract: the two stores are the swap, and the entry that was loaded ahead of them is the one that is there after them.
 -- Assumes nothing.
-use borrow.Author.Rules.{rules}
 use mathlib.Core.Path.{◌≡◌, refl, ap}
 use native.Mathlib.Omega.{arith}
 use Prim.Native.Nat.{ℕ, ◌+◌, ◌%◌, ◌<◌}
 use native.Mathlib.Nat.{mod-lt}
 use lib.Dec.{lit<}
-use lib.ListN.{length, get_or, set, length-set}
+use lib.ListN.{length, get_or, set}
 use Rattle.rc4.specs.Rc4.{swap}
 use Rattle.rc4.proofs.Table.{loaded_early}
 use Rattle.rc4.proofs.step.Goals as goal

@@ -1,10 +1,9 @@
 -- `rc4::table_of` meets its contract: the key's length picks the table, and its entries are bytes.
 -- Assumes nothing.
-use borrow.Author.Rules.{rules}
 use mathlib.Core.Path.{sym, ◌∙◌}
 use native.Mathlib.Omega.{arith}
 use Rattle.rc4.proofs.Rearranged.{identity_rearranged, mixing_rearranged}
-use Rattle.rc4.proofs.Table.{table_mixed, table_unmixed, some_bytes}
+use Rattle.rc4.proofs.Table.{table_mixed, table_unmixed}
 use Rattle.rc4.proofs.table_of.Goals as goal
 
 pub narrowed-requires : goal.narrowed-requires

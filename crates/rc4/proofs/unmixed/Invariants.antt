@@ -1,15 +1,9 @@
 -- `rc4::unmixed` meets its contract: after i turns the first i entries are 0 to i - 1.
 -- Assumes nothing.
-use borrow.Author.Rules.{rules}
-use mathlib.Core.Path.{◌≡◌, refl, sym, ◌∙◌}
-use native.Mathlib.Omega.{arith}
-use Prim.Native.Nat.{ℕ, ◌≤◌, ◌-◌, ◌%◌}
-use native.Mathlib.Nat.{le_of_eq, mod-eq_of_lt}
-use lib.ListN.{length, take, length-set}
-use lib.Seq.{take_all}
+use mathlib.Core.Path.{◌≡◌}
+use Prim.Native.Nat.{ℕ, ◌≤◌, ◌-◌}
+use lib.ListN.{length, take}
 use Rattle.laws.specs.Offsets.{tabulate}
-use Rattle.laws.proofs.Offsets.{tabulate_store}
-use Rattle.rc4.specs.Rc4.{identity}
 use Rattle.rc4.proofs.unmixed.Given as goal
 
 abbrev pub invariant-loop-i : goal.invariant-loop-i

@@ -7,12 +7,12 @@ use Rattle.rc4.specs.declared.Keystream.{Keystream}
 use borrow.Author.Rules.{rules}
 use mathlib.Core.Path.{◌≡◌, refl, ap, ◌∙◌}
 use native.Mathlib.Omega.{arith}
-use Prim.Native.Nat.{ℕ, ◌+◌, ◌≤◌, ◌<◌, ◌-◌, ◌%◌}
+use Prim.Native.Nat.{ℕ, ◌+◌, ◌<◌, ◌%◌}
 use native.Mathlib.Nat.{mod-lt}
 use lib.Dec.{lit<}
 use lib.ListN.{length, get_or}
-use Rattle.laws.proofs.Written.{Written, written_none, written_more}
-use Rattle.rc4.specs.Rc4.{after, applied}
+use Rattle.laws.proofs.Written.{written_none, written_more}
+use Rattle.rc4.specs.Rc4.{applied}
 use Rattle.rc4.proofs.Table.{after_none, after_more, byte_more, applies}
 use Rattle.rc4.proofs.Keystream.apply.Goals as goal
 

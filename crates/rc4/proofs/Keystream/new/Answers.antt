@@ -1,6 +1,5 @@
 -- `rc4::Keystream::new` meets its contract: the answer is put together from its parts.
 -- Assumes nothing.
-use borrow.Author.Rules.{rules}
 use mathlib.Core.Path.{◌∙◌}
 use Rattle.rc4.proofs.Table.{made_of}
 use Rattle.rc4.proofs.Keystream.new.Goals as goal
