@@ -18,12 +18,12 @@ abbrev pub scalars : List ℕ → Bool
 scalars [] = true
 scalars (p ∷ ps) = is_scalar p && scalars ps
 
-decodes : (s : List ℕ) {at : ℕ} {qs : List ℕ} (ps : List ℕ) → Passed s at qs → drop at s ≡ utf8s ps → scalars ps ≡ true → points s ≡ some (qs ++ ps)
+decodes : (s : List ℕ) (ps : List ℕ) {at : ℕ} {qs : List ℕ} → Passed s at qs → drop at s ≡ utf8s ps → scalars ps ≡ true → points s ≡ some (qs ++ ps)
 unfolding utf8s
-decodes s {at} {qs} [] w e h =
+decodes s [] {at} {qs} w e h =
     let l = sym (length-drop at s) ∙ ap length e in
     passed_end s w refl (end_char s at (omega arith)) ∙ ap some (sym (append-nil qs))
-decodes s {at} {qs} (p ∷ ps) w e h =
+decodes s (p ∷ ps) {at} {qs} w e h =
     let b = (and-eq-true_iff (is_scalar p) (scalars ps)).0 h in
     let d : drop (at + length (utf8 p)) s ≡ utf8s ps = sym (drop-drop (length (utf8 p)) at s) ∙ ap (drop (length (utf8 p))) e ∙ drop-append_seam (utf8 p) (utf8s ps) in
     let c = stands_char s at p (at + length (utf8 p)) (record { scalar = b.0; ends = refl; bytes = rw d e }) in

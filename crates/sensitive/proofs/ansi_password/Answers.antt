@@ -7,7 +7,6 @@ use mathlib.Core.Bool.{Bool, true, false, ◌&&◌, and_assoc, and-false}
 use mathlib.Core.Option.{none, some}
 use mathlib.Core.List.{List, [], ◌∷◌, ◌++◌}
 use native.Mathlib.Omega.{arith}
-use borrow.Author.Rules.{rules}
 use borrow.Author.Tests.{le-leb, lt-leb}
 use lib.Dec.{leb}
 use lib.ListN.{length, set, replicate, length-append}
@@ -18,7 +17,6 @@ use Rattle.sensitive.specs.Utf8.{points}
 use Rattle.sensitive.specs.Ansi.{narrow, ansi, ansi_of}
 use Rattle.sensitive.proofs.Texts.{Passed, passed_none, passed_more, passed_on, passed_end, passed_bad, passed_all}
 use Rattle.sensitive.proofs.ansi_password.Goals as goal
-use Rattle.sensitive.proofs.ansi_password.Lts as lts
 
 narrow_append : (ps qs : List ℕ) → narrow (ps ++ qs) ≡ (narrow ps && narrow qs)
 narrow_append [] qs = refl
@@ -55,31 +53,36 @@ module _ (s : List ℕ) where
   finished [] h e f = sym (ap ansi_of (good [] f ∙ left _ _ refl))
   finished (p ∷ ps) h e f = sym (ap ansi_of (good (p ∷ ps) f ∙ taken _ _ (rw (within_yes 1 15 (suc (length ps)) (omega arith) h) e)))
 
-passed : (c : lts.View.In-In-Point invariant_loop decreases_loop)
-    → Passed c.args.text.now c.in-Point.next (c.loop-point.invariant.0 ++ (c.in-Point.point ∷ []))
-passed c =
-    passed_more _ c.loop-point.invariant.1 c.char_at.ensures _ _ c.in-Point.is
-
 pub loop-point-init : goal.loop-point-init
 loop-point-init c = ([], passed_none _, refl, omega arith, refl, refl)
 
 pub returns-then-point-gt255 : goal.returns-then-point-gt255
-returns-then-point-gt255 c = c.no_password.ensures
-    ∙ ap ansi_of (sym (refused _ (passed c) (λ qs. rw (wide c.loop-point.invariant.0 qs c.in-Point.point c.if-point-gt255.true, and-false))))
+returns-then-point-gt255 c =
+    let passed : Passed c.args.text.now c.in-Point.next (c.loop-point.invariant.0 ++ (c.in-Point.point ∷ [])) =
+    passed_more _ c.loop-point.invariant.1 c.char_at.ensures _ _ c.in-Point.is in
+    c.no_password.ensures
+    ∙ ap ansi_of (sym (refused _ passed (λ qs. rw (wide c.loop-point.invariant.0 qs c.in-Point.point c.if-point-gt255.true, and-false))))
 
 pub returns-then-len-ge-XOR_PASSWORD_MAX_LEN : goal.returns-then-len-ge-XOR_PASSWORD_MAX_LEN
-returns-then-len-ge-XOR_PASSWORD_MAX_LEN c = c.no_password-then-len-ge-XOR_PASSWORD_MAX_LEN.ensures
-    ∙ ap ansi_of (sym (refused _ (passed c) (λ qs. rw (within_high 1 15 (length (c.loop-point.invariant.0 ++ (c.in-Point.point ∷ []) ++ qs)) (rw (length-append, length-append) (omega arith))))))
+returns-then-len-ge-XOR_PASSWORD_MAX_LEN c =
+    let passed : Passed c.args.text.now c.in-Point.next (c.loop-point.invariant.0 ++ (c.in-Point.point ∷ [])) =
+    passed_more _ c.loop-point.invariant.1 c.char_at.ensures _ _ c.in-Point.is in
+    c.no_password-then-len-ge-XOR_PASSWORD_MAX_LEN.ensures
+    ∙ ap ansi_of (sym (refused _ passed (λ qs. rw (within_high 1 15 (length (c.loop-point.invariant.0 ++ (c.in-Point.point ∷ []) ++ qs)) (rw (length-append, length-append) (omega arith))))))
 
 pub loop-point-smaller : goal.loop-point-smaller
-loop-point-smaller c = let w = passed c in
+loop-point-smaller c =
+    let passed : Passed c.args.text.now c.in-Point.next (c.loop-point.invariant.0 ++ (c.in-Point.point ∷ [])) =
+    passed_more _ c.loop-point.invariant.1 c.char_at.ensures _ _ c.in-Point.is in
     let m = passed_on _ c.loop-point.invariant.1 c.char_at.ensures _ _ c.in-Point.is in
     omega arith
 
 pub loop-point-preserved : goal.loop-point-preserved
-loop-point-preserved c = (
+loop-point-preserved c =
+    let passed : Passed c.args.text.now c.in-Point.next (c.loop-point.invariant.0 ++ (c.in-Point.point ∷ [])) =
+    passed_more _ c.loop-point.invariant.1 c.char_at.ensures _ _ c.in-Point.is in (
       _,
-      passed c,
+      passed,
       rw length-append (omega arith),
       omega arith,
       narrow_more c.loop-point.invariant.0 c.in-Point.point c.loop-point.invariant.4 c.if-point-gt255.false,

@@ -1,6 +1,5 @@
 -- `sensitive::char_at` meets its contract: at the end it answers `End`, and else what the four bytes start, which `byte_at` reads.
 -- Assumes nothing.
-use borrow.Author.Rules.{rules}
 use borrow.Author.Tests.{le-leb, lt-leb}
 use Rattle.laws.proofs.Choice.{stop, skip}
 use Rattle.sensitive.specs.Utf8.{char_at}

@@ -1,6 +1,5 @@
 -- `sensitive::four` meets its contract: the test is put together from what its calls ensure.
 -- Assumes nothing.
-use borrow.Author.Rules.{rules}
 use Rattle.sensitive.specs.Utf8.{four}
 use Rattle.sensitive.proofs.four.Goals as goal
 

@@ -1,12 +1,8 @@
 -- `sensitive::put` meets its contract: the loop's invariant is that the first `k` bytes are copied.
 -- Assumes nothing.
-use Prim.Native.Nat.{◌+◌, ◌-◌, ◌≤◌}
-use mathlib.Core.Path.{◌≡◌}
 use native.Mathlib.Numerals.{add-one}
 use native.Mathlib.Omega.{arith}
-use borrow.Author.Rules.{rules}
-use lib.ListN.{length}
-use lib.Seq.{paste, paste-zero, paste-suc, length-paste}
+use lib.Seq.{paste-suc}
 use Rattle.sensitive.proofs.put.Goals as goal
 
 pub loop-k-preserved : goal.loop-k-preserved

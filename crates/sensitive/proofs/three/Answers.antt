@@ -1,6 +1,5 @@
 -- `sensitive::three` meets its contract: the test is put together from what its calls ensure.
 -- Assumes nothing.
-use borrow.Author.Rules.{rules}
 use Rattle.sensitive.specs.Utf8.{three}
 use Rattle.sensitive.proofs.three.Goals as goal
 

@@ -1,6 +1,5 @@
 -- `sensitive::utf16le` meets its contract: one unit below 10000, else two, from what the calls say of each byte.
 -- Assumes nothing.
-use borrow.Author.Rules.{rules}
 use mathlib.Core.Path.{sym}
 use Rattle.sensitive.proofs.Utf16.{units_1, units_2}
 use Rattle.sensitive.proofs.utf16le.Goals as goal

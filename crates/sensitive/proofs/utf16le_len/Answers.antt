@@ -1,16 +1,13 @@
 -- `sensitive::utf16le_len` meets its contract: the loop's invariant is that the characters up to `at` are passed and their encoding takes `len` bytes,
 -- at most two for each byte of the text, so that no sum wraps. The measure is what is left of the text.
 -- Assumes nothing.
-use Prim.Native.Nat.{ℕ, ◌-◌}
-use mathlib.Core.Path.{◌≡◌, refl, ap}
-use mathlib.Core.List.{List, []}
+use mathlib.Core.Path.{refl, ap}
+use mathlib.Core.List.{[]}
 use native.Mathlib.Omega.{arith}
-use borrow.Author.Rules.{rules}
-use lib.ListN.{length}
 use Rattle.sensitive.specs.Utf16.{utf16les}
 use Rattle.sensitive.specs.declared.Length.TheVariants.{Bytes}
 use Rattle.sensitive.proofs.Utf16.{spells, count_more}
-use Rattle.sensitive.proofs.Texts.{Passed, passed_none, passed_more, passed_on, passed_end, passed_bad}
+use Rattle.sensitive.proofs.Texts.{passed_none, passed_more, passed_on, passed_end, passed_bad}
 use Rattle.sensitive.proofs.utf16le_len.Goals as goal
 
 pub loop-point-init : goal.loop-point-init

@@ -1,7 +1,6 @@
 -- `sensitive::utf16le_password` meets its contract: the three outcomes go by what `utf16le_len` answers and by the buffer's length; the part that is lent for writing is as long as
 -- the encoding, and comes back in front of the rest.
 -- Assumes nothing.
-use borrow.Author.Rules.{rules}
 use Prim.Native.Nat.{ℕ, ◌≤◌, ◌<◌}
 use mathlib.Core.Path.{◌≡◌, refl, sym, ◌∙◌}
 use mathlib.Core.Option.{Option, none, some}
@@ -15,9 +14,8 @@ use Rattle.sensitive.specs.declared.Length.TheVariants as lengths
 use Rattle.sensitive.specs.declared.Encoded.TheVariants as encoding
 use Rattle.sensitive.proofs.Texts.{no_length, all_bytes}
 use Rattle.sensitive.proofs.utf16le_password.Goals as goal
-use Rattle.sensitive.proofs.utf16le_password.Lts as lts
--- the three outcomes
 
+-- the three outcomes
 module _ (o : Option (List ℕ)) (out : List ℕ) where
   bad : length_of o ≡ lengths.Malformed → into o out ≡ record { answer = encoding.Malformed; out = out }
   unfolding into
@@ -40,11 +38,6 @@ sized : (o : Option (List ℕ)) (n : ℕ) → length_of o ≡ lengths.Bytes n �
 sized none n e = absurd (no_length n e)
 sized (some bs) n e = (bs, refl, all_bytes (length bs) n e)
 
-fits : (c : lts.View.In-After-put_text-arg-1)
-    → c.in-Bytes.n ≡ length (take c.in-Bytes.n c.args.out.now)
-fits c =
-    sym (length-take-le c.in-Bytes.n c.args.out.now c.if-out-n.false)
-
 pub returns-then-out-n : goal.returns-then-out-n
 returns-then-out-n c = let b = sized (encoded c.args.text.now) _ (sym c.utf16le_len.ensures ∙ c.in-Bytes.is) in
     rw (← b.2, short (encoded c.args.text.now) c.args.out.now b.0 b.1 (rw b.2 c.if-out-n.true)) (refl, refl)
@@ -53,5 +46,7 @@ pub returns-in-Malformed : goal.returns-in-Malformed
 returns-in-Malformed c = rw (bad (encoded c.args.text.now) c.args.out.now (sym c.utf16le_len.ensures ∙ c.in-Malformed.is)) (refl, refl)
 
 pub returns-else-out-n : goal.returns-else-out-n
-returns-else-out-n c = let l = fits c ∙ sym c.put_text.auto.1.0 in
-    rw (l, whole (encoded c.args.text.now) c.args.out.now c.put_text.new.1.0 c.put_text.ensures (rw (← l) c.if-out-n.false)) (refl, refl)
+returns-else-out-n c =
+    let fits : c.in-Bytes.n ≡ length (take c.in-Bytes.n c.args.out.now) = sym (length-take-le c.in-Bytes.n c.args.out.now c.if-out-n.false) in
+    let l = fits ∙ sym c.put_text.auto.out in
+    rw (l, whole (encoded c.args.text.now) c.args.out.now c.put_text.new.out c.put_text.ensures (rw (← l) c.if-out-n.false)) (refl, refl)

@@ -1,6 +1,5 @@
 -- `sensitive::well_formed` meets its contract: a text has a length in UTF-16LE exactly where it is well formed.
 -- Assumes nothing.
-use borrow.Author.Rules.{rules}
 use Prim.Native.Nat.{ℕ}
 use mathlib.Core.Path.{◌≡◌, refl, sym, ap, ◌∙◌}
 use mathlib.Core.Bool.{Bool, true, false}

@@ -1,13 +1,12 @@
 -- `sensitive::wipe` meets its contract: the loop's invariant is that the first `i` bytes are zero and the rest is as it was.
 -- Assumes nothing.
-use Prim.Native.Nat.{ℕ, zero, suc, ◌+◌, ◌-◌, ◌≤◌, ◌<◌}
+use Prim.Native.Nat.{ℕ, zero, suc, ◌+◌, ◌<◌}
 use mathlib.Core.Path.{◌≡◌, refl, sym, ap, ◌∙◌}
 use mathlib.Core.List.{List, ◌∷◌, ◌++◌}
 use native.Mathlib.Numerals.{add-one}
 use native.Mathlib.Omega.{arith}
-use borrow.Author.Rules.{rules}
 use borrow.Author.Tests.{le-leb, lt-leb}
-use lib.ListN.{length, get_or, drop, set, replicate, length-append, length-drop, length-replicate}
+use lib.ListN.{length, get_or, drop, set, replicate, length-replicate}
 use lib.Seq.{drop-cons, set_at}
 use Rattle.laws.proofs.Choice.{taken, left}
 use Rattle.sensitive.proofs.wipe.Goals as goal
