@@ -21,7 +21,8 @@ rising_from m (n ∷ ns) = leb m n && rising_from n ns
 
 both : (t u : Bool) → (t && u) ≡ true → (t ≡ true) × (u ≡ true)
 both true u e = (refl, e)
-both false u e = (e, elim u [ true ↦ refl | false ↦ e ])
+both false true e = (e, refl)
+both false false e = (e, e)
 
 -- and what it says of each element, and of any two
 above : (m : ℕ) (ns : List ℕ) → rising_from m ns ≡ true → (i : ℕ) → i < length ns → m ≤ get_or ns i 0
