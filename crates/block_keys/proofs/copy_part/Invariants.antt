@@ -1,0 +1,19 @@
+-- `block_keys::copy_part` meets its contract: after i turns the first i places are those of the definition.
+-- Assumes nothing.
+use mathlib.Core.Path.{◌≡◌, refl, sym, ap, ◌∙◌}
+use Prim.Native.Nat.{ℕ, ◌+◌, ◌-◌, ◌≤◌}
+use native.Mathlib.Nat.{le_of_eq}
+use native.Mathlib.Omega.{arith}
+use lib.ListN.{length, get_or, take}
+use lib.Seq.{take_all}
+use Rattle.laws.specs.Offsets.{tabulate}
+use Rattle.laws.proofs.Offsets.{tabulate_store}
+use borrow.Author.Rules.{rules}
+use Rattle.block_keys.specs.Lock.{part}
+use Rattle.block_keys.proofs.copy_part.Given as goal
+
+abbrev pub invariant-loop-i : goal.invariant-loop-i
+invariant-loop-i l = (l.i ≤ length l.initial.dst) × (length l.dst ≡ length l.initial.dst) × (take l.i l.dst ≡ part l.structure l.at l.i)
+
+abbrev pub decreases-loop-i : goal.decreases-loop-i
+decreases-loop-i l = length l.initial.dst - l.i
