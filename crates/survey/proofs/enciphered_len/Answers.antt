@@ -11,10 +11,9 @@ use Rattle.laws.proofs.Choice.{taken, left, either}
 use Rattle.binary_office.specs.Walk.{never_encrypted, clear_len}
 use borrow.Author.Rules.{rules}
 use Rattle.survey.proofs.Records.{clear_within}
-use Rattle.survey.proofs.enciphered_len.Statement.{statement}
-use Rattle.survey.proofs.enciphered_len.Tie as tie
-
+use Rattle.survey.proofs.enciphered_len.Goals as goal
 -- the smaller of two numbers
+
 smaller : (len most : ℕ) → pick (ltb len most) len most ≡ min most len
 smaller len most =
     either most len
@@ -33,26 +32,14 @@ by_tests : (id len most few clear : ℕ) → most ≡ pick (eqb id 0x0085) 4 0 �
 unfolding clear_len
 by_tests id len most few clear e f g = g ∙ ap (pick (never_encrypted id) len) (f ∙ smaller len most ∙ rw e (of_none (eqb id 0x0085) len))
 
-clear_is : (c : tie.After-one-of3) → c.one-of3.result ≡ clear_len c.before.before.before.before.args.id c.before.before.before.before.args.len
-clear_is c =
-    let at_one_of2 = c.before.before in
-    let at_one_of = at_one_of2.before in
-    let args = at_one_of.before.args in
-    by_tests args.id args.len _ _ _ at_one_of.one_of_lem.ensures at_one_of2.one-of2.ensures (rw c.before.never-encrypted.ensures at c.one-of3.ensures)
+pub overflow_sub-result : goal.overflow_sub-result
+overflow_sub-result c =
+    let clear_is : c.one_of.result ≡ clear_len c.args.id c.args.len =
+      by_tests c.args.id c.args.len _ _ _ c.one_of-most.ensures c.one_of-few.ensures (rw c.never_encrypted.ensures at c.one_of.ensures) in
+    rw (clear_is) (clear_within c.args.id c.args.len)
 
-sub_result : tie.Need-overflow-sub-result
-sub_result c = let args = c.before.before.before.before.args in rw (clear_is c) (clear_within args.id args.len)
-
-returns : tie.Need-returns
-returns c = let args = c.before.before.before.before.args in ap (λ (n : ℕ). args.len - n) (clear_is c)
-
-pub enciphered_len_spec : {M : Type 1} → statement M
-enciphered_len_spec =
-    tie.close
-    (tie.spec
-    (λ c κs. search rules)
-    (λ c κs. search rules)
-    (λ c κs. search rules)
-    (λ c κs. search rules)
-    sub_result
-    returns)
+pub returns : goal.returns
+returns c =
+    let clear_is : c.one_of.result ≡ clear_len c.args.id c.args.len =
+      by_tests c.args.id c.args.len _ _ _ c.one_of-most.ensures c.one_of-few.ensures (rw c.never_encrypted.ensures at c.one_of.ensures) in
+    ap (λ (n : ℕ). c.args.len - n) (clear_is)

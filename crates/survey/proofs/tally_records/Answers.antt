@@ -1,0 +1,26 @@
+-- `survey::tally_records` meets its contract: what was tallied before an offset and what is left from there on make the whole.
+-- Assumes nothing.
+use mathlib.Core.Path.{sym, ◌∙◌}
+use Prim.Native.Nat.{◌-◌}
+use native.Mathlib.Omega.{arith}
+use lib.ListN.{length}
+use Rattle.binary_office.proofs.Walks.{record_within}
+use Rattle.survey.proofs.Records.{clear_within}
+use borrow.Author.Rules.{rules}
+use Rattle.survey.proofs.Tallied.{Tallied, tallied_none, tallied_on, tallied_end, tallied_fault}
+use Rattle.survey.proofs.tally_records.Goals as goal
+
+pub returns-in-End : goal.returns-in-End
+returns-in-End c = tallied_end c.args.stream.now _ _ _ _ _ c.loop-offset.invariant (sym c.in-End.ensures)
+
+pub returns-in-Fault : goal.returns-in-Fault
+returns-in-Fault c = tallied_fault c.args.stream.now _ _ _ _ _ c.loop-offset.invariant _ (sym c.in-Fault.ensures)
+
+pub loop-offset-smaller : goal.loop-offset-smaller
+loop-offset-smaller c = let h = record_within c.args.stream.now c.loop-offset.at _ _ (sym c.in-Record.ensures) in
+    omega arith
+
+pub loop-offset-preserved : goal.loop-offset-preserved
+loop-offset-preserved c = rw (c.enciphered_len.ensures, c.found_on-found.ensures, c.other_on-other.ensures)
+    (tallied_on c.args.stream.now c.loop-offset.at _ _ (sym c.in-Record.ensures) c.loop-offset.records c.loop-offset.enciphered
+    c.loop-offset.found c.loop-offset.other c.loop-offset.invariant)
