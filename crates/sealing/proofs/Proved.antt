@@ -74,7 +74,7 @@ module _ (plain_stream password : List ℕ) (choice : Choice) (salt verifier scr
   back = read_back password salt verifier hs hv choice ran.zero.len ran.passed.admits fitting ran.taken
 
   alone_passed : none ≡ asked (of_stream whole)
-  alone_passed = sealed_passes plain_stream password choice salt verifier ran.zero ran.found ran.passed.clean_end back ran.passed.starts_bof
+  alone_passed = sealed_passes plain_stream password choice salt verifier ran.zero ran.found ran.passed.clean_end back ran.passed.starts_bof_lem
 
   check_passed : passes (filepass_body whole) password ≡ true
   check_passed = ap (λ (b : List ℕ). passes b password) (body_is plain_stream password choice salt verifier ran.zero ran.found ran.passed.clean_end back) ∙ back.opens

@@ -19,7 +19,7 @@ few n h = omega arith
 
 pub overflow_add-result : goal.overflow_add-result
 overflow_add-result c = let told = c.apply_rc4-keys.ensures.counted c.requires.2 in
-    let h = few (length c.args.plain.now) (omega (arith, c.password_well_formed)) in
+    let h = few (length c.args.plain.now) (omega (arith, c.well_formed)) in
     omega arith
 
 pub returns : goal.returns
