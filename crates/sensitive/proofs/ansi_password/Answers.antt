@@ -61,7 +61,7 @@ returns-then-point-gt255 c =
     let passed : Passed c.args.text.now c.in-Point.next (c.loop-point.invariant.0 ++ (c.in-Point.point ∷ [])) =
     passed_more _ c.loop-point.invariant.1 c.char_at.ensures _ _ c.in-Point.is in
     c.no_password.ensures
-    ∙ ap ansi_of (sym (refused _ passed (λ qs. rw (wide c.loop-point.invariant.0 qs c.in-Point.point c.if-point-gt255.true, and-false))))
+    ∙ ap ansi_of (sym (refused _ passed (λ qs. rw (wide c.loop-point.invariant.0 qs c.in-Point.point (omega arith), and-false))))
 
 pub returns-then-len-ge-XOR_PASSWORD_MAX_LEN : goal.returns-then-len-ge-XOR_PASSWORD_MAX_LEN
 returns-then-len-ge-XOR_PASSWORD_MAX_LEN c =
@@ -85,8 +85,8 @@ loop-point-preserved c =
       passed,
       rw length-append (omega arith),
       omega arith,
-      narrow_more c.loop-point.invariant.0 c.in-Point.point c.loop-point.invariant.4 c.if-point-gt255.false,
-      rw c.loop-point.invariant.5 (stored c.loop-point.invariant.0 c.loop-point.len c.in-Point.point c.loop-point.invariant.2 c.if-len-ge-XOR_PASSWORD_MAX_LEN.false),
+      narrow_more c.loop-point.invariant.0 c.in-Point.point c.loop-point.invariant.4 (omega arith),
+      rw c.loop-point.invariant.5 (stored c.loop-point.invariant.0 c.loop-point.len c.in-Point.point c.loop-point.invariant.2 (omega arith)),
     )
 
 pub returns-in-Malformed : goal.returns-in-Malformed

@@ -13,7 +13,7 @@ pub returns-then-len-lt1 : goal.returns-then-len-lt1
 returns-then-len-lt1 c = key_short c.args.password.now c.if-len-lt1.true
 
 pub returns-then-len-gt-XOR_PASSWORD_MAX_LEN : goal.returns-then-len-gt-XOR_PASSWORD_MAX_LEN
-returns-then-len-gt-XOR_PASSWORD_MAX_LEN c = key_long c.args.password.now c.if-len-gt-XOR_PASSWORD_MAX_LEN.true
+returns-then-len-gt-XOR_PASSWORD_MAX_LEN c = key_long c.args.password.now (omega arith)
 
 pub loop-n-init : goal.loop-n-init
 loop-n-init c = (search rules, search rules, search rules, search rules, key_none c.initial-key.result c.args.password.now)
