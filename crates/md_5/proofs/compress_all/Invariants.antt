@@ -1,12 +1,9 @@
 -- `md_5::compress_all` meets its contract: after i turns the value is that of the first i blocks.
 -- Assumes nothing.
-use borrow.Author.Rules.{rules}
-use mathlib.Core.Path.{◌≡◌, ap, ◌∙◌}
-use native.Mathlib.Omega.{arith}
-use Prim.Native.Nat.{ℕ, ◌≤◌, ◌-◌, ◌/◌}
+use mathlib.Core.Path.{◌≡◌}
+use Prim.Native.Nat.{◌≤◌, ◌-◌, ◌/◌}
 use lib.ListN.{length}
 use Rattle.padding.specs.Padding.{blocks}
-use Rattle.padding.proofs.Blocks.{blocks_turn, blocks_none}
 use Rattle.md_5.specs.Md5.{compressed}
 use Rattle.md_5.proofs.compress_all.Given as goal
 

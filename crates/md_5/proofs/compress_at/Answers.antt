@@ -4,7 +4,6 @@ use mathlib.Core.Path.{◌≡◌, ap, ◌∙◌}
 use mathlib.Core.List.{List}
 use Prim.Native.Nat.{ℕ}
 use Rattle.md_5.specs.Md5.{steps, added, compressed}
-use borrow.Author.Rules.{rules}
 use Rattle.md_5.proofs.compress_at.Goals as goal
 
 pub returns : goal.returns

@@ -5,7 +5,6 @@ use lib.ListN.{length}
 use Rattle.padding.specs.Padding.{hash_end, le64}
 use Rattle.md_5.specs.declared.State.{State}
 use Rattle.md_5.specs.Md5.{md5, compressed, output}
-use borrow.Author.Rules.{rules}
 use Rattle.md_5.proofs.digest.Goals as goal
 
 pub returns : goal.returns

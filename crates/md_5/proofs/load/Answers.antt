@@ -1,14 +1,6 @@
 -- `md_5::load` meets its contract: after each turn one word more of the block is loaded.
 -- Assumes nothing.
 use borrow.Author.Rules.{rules}
-use mathlib.Core.Path.{◌≡◌, sym, ◌∙◌}
-use native.Mathlib.Omega.{arith}
-use Prim.Native.Nat.{ℕ, ◌*◌, ◌≤◌, ◌-◌}
-use native.Mathlib.Nat.{le_of_eq}
-use lib.ListN.{length, take, drop}
-use lib.Seq.{take_all}
-use Rattle.laws.specs.Offsets.{tabulate}
-use Rattle.word.specs.Word.{le32}
 use Rattle.md_5.proofs.Steps.{load_more, none_loaded}
 use Rattle.md_5.proofs.load.Goals as goal
 
@@ -17,8 +9,8 @@ loop-i-init c = (search rules, search rules, none_loaded _)
 
 pub loop-i-preserved : goal.loop-i-preserved
 loop-i-preserved c = (
-      search rules,
-      search rules,
-      load_more c.args.m.now c.loop-i.x c.args.at c.loop-i.i c.from_le_bytes.result (search rules) c.loop-i.invariant.1 c.loop-i.invariant.2
-          c.from_le_bytes.ensures,
-    )
+  search rules,
+  search rules,
+  load_more c.args.m.now c.loop-i.x c.args.at c.loop-i.i c.from_le_bytes.result (search rules) c.loop-i.invariant.1 c.loop-i.invariant.2
+      c.from_le_bytes.ensures,
+)

@@ -1,15 +1,10 @@
 -- `md_5::load` meets its contract: after each turn one word more of the block is loaded.
 -- Assumes nothing.
-use borrow.Author.Rules.{rules}
-use mathlib.Core.Path.{◌≡◌, sym, ◌∙◌}
-use native.Mathlib.Omega.{arith}
+use mathlib.Core.Path.{◌≡◌}
 use Prim.Native.Nat.{ℕ, ◌*◌, ◌≤◌, ◌-◌}
-use native.Mathlib.Nat.{le_of_eq}
 use lib.ListN.{length, take, drop}
-use lib.Seq.{take_all}
 use Rattle.laws.specs.Offsets.{tabulate}
 use Rattle.word.specs.Word.{le32}
-use Rattle.md_5.proofs.Steps.{load_more, none_loaded}
 use Rattle.md_5.proofs.load.Given as goal
 
 abbrev pub invariant-loop-i : goal.invariant-loop-i

@@ -3,7 +3,6 @@
 use Rattle.md_5.proofs.Steps.{one_more}
 use Rattle.laws.specs.Choice.{pick}
 use Rattle.md_5.specs.Md5.{step}
-use borrow.Author.Rules.{rules}
 use Rattle.md_5.proofs.round3.Goals as goal
 
 pub returns : goal.returns

@@ -1,7 +1,6 @@
 -- `md_5::to_bytes` meets its contract: the bytes of each word, in order.
 -- Assumes nothing.
 use Rattle.md_5.specs.Md5.{output}
-use borrow.Author.Rules.{rules}
 use Rattle.md_5.proofs.to_bytes.Goals as goal
 
 pub returns : goal.returns

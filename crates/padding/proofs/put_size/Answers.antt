@@ -1,10 +1,8 @@
 -- `padding::put_size` meets its contract: the loop copies the length's bytes, one store a turn.
 -- Assumes nothing.
 use borrow.Author.Rules.{rules}
-use Prim.Native.Nat.{ℕ, ◌≤◌, ◌-◌}
-use mathlib.Core.Path.{◌≡◌, refl, ap, ◌∙◌}
+use mathlib.Core.Path.{◌≡◌, refl}
 use lib.ListN.{length, get_or}
-use lib.Seq.{paste, paste-zero}
 use native.Mathlib.Omega.{arith}
 use Rattle.laws.proofs.Copy.{copy_more}
 use Rattle.padding.proofs.put_size.Goals as goal

@@ -1,12 +1,9 @@
 -- `padding::put_size` meets its contract: the loop copies the length's bytes, one store a turn.
 -- Assumes nothing.
-use borrow.Author.Rules.{rules}
-use Prim.Native.Nat.{ℕ, ◌≤◌, ◌-◌}
-use mathlib.Core.Path.{◌≡◌, refl, ap, ◌∙◌}
-use lib.ListN.{length, get_or}
-use lib.Seq.{paste, paste-zero}
-use native.Mathlib.Omega.{arith}
-use Rattle.laws.proofs.Copy.{copy_more}
+use Prim.Native.Nat.{◌≤◌, ◌-◌}
+use mathlib.Core.Path.{◌≡◌}
+use lib.ListN.{length}
+use lib.Seq.{paste}
 use Rattle.padding.proofs.put_size.Given as goal
 
 abbrev pub invariant-loop-i : goal.invariant-loop-i

@@ -1,10 +1,9 @@
 -- `padding::rest` meets its contract: the loop copies the bytes behind the whole blocks, one store a turn.
 -- Assumes nothing.
 use borrow.Author.Rules.{rules}
-use Prim.Native.Nat.{ℕ, ◌≤◌, ◌<◌, ◌+◌, ◌-◌, ◌%◌}
-use mathlib.Core.Path.{◌≡◌, refl, ap, ◌∙◌}
-use lib.ListN.{length, drop, replicate, get_or}
-use lib.Seq.{paste}
+use Prim.Native.Nat.{◌<◌, ◌+◌, ◌-◌, ◌%◌}
+use mathlib.Core.Path.{refl}
+use lib.ListN.{length, replicate, get_or}
 use native.Mathlib.Omega.{arith}
 use Rattle.laws.proofs.Copy.{copy_from}
 use Rattle.padding.proofs.rest.Goals as goal

@@ -1,12 +1,9 @@
 -- `padding::rest` meets its contract: the loop copies the bytes behind the whole blocks, one store a turn.
 -- Assumes nothing.
-use borrow.Author.Rules.{rules}
-use Prim.Native.Nat.{ℕ, ◌≤◌, ◌<◌, ◌+◌, ◌-◌, ◌%◌}
-use mathlib.Core.Path.{◌≡◌, refl, ap, ◌∙◌}
-use lib.ListN.{length, drop, replicate, get_or}
+use Prim.Native.Nat.{◌≤◌, ◌-◌}
+use mathlib.Core.Path.{◌≡◌}
+use lib.ListN.{length, drop, replicate}
 use lib.Seq.{paste}
-use native.Mathlib.Omega.{arith}
-use Rattle.laws.proofs.Copy.{copy_from}
 use Rattle.padding.proofs.rest.Given as goal
 
 abbrev pub invariant-loop-i : goal.invariant-loop-i

@@ -1,7 +1,6 @@
 -- `padding::size_le` meets its contract: the eight bytes of `size_be`, in the other order.
 -- Assumes nothing.
 use Rattle.padding.specs.Padding.{be64, le64}
-use borrow.Author.Rules.{rules}
 use Rattle.padding.proofs.size_le.Goals as goal
 
 pub returns : goal.returns

@@ -2,11 +2,6 @@
 -- Assumes nothing.
 use Rattle.padding.proofs.Blocks.{blocks_turn, blocks_none}
 use borrow.Author.Rules.{rules}
-use mathlib.Core.Path.{◌≡◌, ap, ◌∙◌}
-use native.Mathlib.Omega.{arith}
-use Prim.Native.Nat.{ℕ, ◌≤◌, ◌-◌, ◌/◌}
-use lib.ListN.{length}
-use Rattle.padding.specs.Padding.{blocks}
 use Rattle.sha_1.specs.Sha1.{compressed}
 use Rattle.sha_1.proofs.compress_all.Goals as goal
 

@@ -1,10 +1,7 @@
 -- `sha_1::compress_all` meets its contract: after i turns the value is that of the first i blocks.
 -- Assumes nothing.
-use Rattle.padding.proofs.Blocks.{blocks_turn, blocks_none}
-use borrow.Author.Rules.{rules}
-use mathlib.Core.Path.{◌≡◌, ap, ◌∙◌}
-use native.Mathlib.Omega.{arith}
-use Prim.Native.Nat.{ℕ, ◌≤◌, ◌-◌, ◌/◌}
+use mathlib.Core.Path.{◌≡◌}
+use Prim.Native.Nat.{◌≤◌, ◌-◌, ◌/◌}
 use lib.ListN.{length}
 use Rattle.padding.specs.Padding.{blocks}
 use Rattle.sha_1.specs.Sha1.{compressed}

@@ -7,7 +7,6 @@ use native.Mathlib.Nat.{le_of_eq}
 use lib.ListN.{length, take, drop}
 use lib.Seq.{take_all}
 use Rattle.sha_1.specs.Sha1.{schedule, rounds, added, compressed}
-use borrow.Author.Rules.{rules}
 use Rattle.sha_1.proofs.compress_at.Goals as goal
 
 pub returns : goal.returns

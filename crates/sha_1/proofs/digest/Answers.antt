@@ -5,7 +5,6 @@ use lib.ListN.{length}
 use Rattle.padding.specs.Padding.{hash_end, be64}
 use Rattle.sha_1.specs.declared.State.{State}
 use Rattle.sha_1.specs.Sha1.{sha1, compressed, output}
-use borrow.Author.Rules.{rules}
 use Rattle.sha_1.proofs.digest.Goals as goal
 
 pub returns : goal.returns

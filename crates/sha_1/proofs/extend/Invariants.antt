@@ -1,14 +1,10 @@
 -- `sha_1::extend` meets its contract: each turn makes one word more from four before it.
 -- Assumes nothing.
-use lib.ListN.{length-set}
-use borrow.Author.Rules.{rules}
 use mathlib.Core.Path.{◌≡◌}
-use native.Mathlib.Omega.{arith}
 use mathlib.Core.List.{List}
 use Prim.Native.Nat.{ℕ, ◌+◌, ◌≤◌, ◌-◌}
 use lib.ListN.{length, take}
 use Rattle.sha_1.specs.Sha1.{schedule}
-use Rattle.sha_1.proofs.Schedule.{extend_more}
 use Rattle.sha_1.proofs.extend.Given as goal
 
 abbrev pub invariant-loop-t : goal.invariant-loop-t

@@ -1,15 +1,11 @@
 -- `sha_1::finish` meets its contract: the whole blocks, and then the padded end, of one block or two.
 -- Assumes nothing.
 use mathlib.Core.Path.{◌≡◌, ap, ◌∙◌}
-use native.Mathlib.Omega.{arith}
 use Prim.Native.Nat.{◌*◌}
-use lib.ListN.{length}
 use Rattle.padding.specs.Padding.{be64, tail_of}
-use Rattle.padding.specs.declared.Tail.{Tail}
-use Rattle.padding.proofs.Blocks.{tail_room, end_one, end_two}
+use Rattle.padding.proofs.Blocks.{end_one, end_two}
 use Rattle.padding.proofs.Size.{length_be64}
 use Rattle.sha_1.specs.Sha1.{compressed, output}
-use borrow.Author.Rules.{rules}
 use Rattle.sha_1.proofs.finish.Goals as goal
 
 pub returns-then-end-eq64 : goal.returns-then-end-eq64

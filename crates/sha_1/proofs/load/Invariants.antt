@@ -1,12 +1,9 @@
 -- `sha_1::load` meets its contract: after each turn one word more of the block is loaded.
 -- Assumes nothing.
-use borrow.Author.Rules.{rules}
 use mathlib.Core.Path.{◌≡◌}
-use native.Mathlib.Omega.{arith}
 use Prim.Native.Nat.{◌≤◌, ◌-◌}
 use lib.ListN.{length, take, drop}
 use Rattle.sha_1.specs.Sha1.{schedule}
-use Rattle.sha_1.proofs.Schedule.{load_more, none_yet}
 use Rattle.sha_1.proofs.load.Given as goal
 
 abbrev pub invariant-loop-t : goal.invariant-loop-t

@@ -1,7 +1,6 @@
 -- `sha_1::to_bytes` meets its contract: the bytes of each word, in order.
 -- Assumes nothing.
 use Rattle.sha_1.specs.Sha1.{output}
-use borrow.Author.Rules.{rules}
 use Rattle.sha_1.proofs.to_bytes.Goals as goal
 
 pub returns : goal.returns

@@ -1,14 +1,8 @@
 -- `xor_obfuscation::char_key` meets its contract: after n turns the key has the first n bits of the character.
 -- Assumes nothing.
-use borrow.Author.Rules.{rules}
-use mathlib.Core.Path.{◌≡◌, refl, ap, ◌∙◌}
-use native.Mathlib.Omega.{arith}
-use Prim.Native.Nat.{ℕ, ◌≤◌, ◌-◌, ◌/◌, ◌%◌, ◌^◌}
-use lib.Bits.{bit_xor}
-use lib.Dec.{eqb}
-use Rattle.laws.specs.Choice.{pick}
+use mathlib.Core.Path.{◌≡◌}
+use Prim.Native.Nat.{◌≤◌, ◌-◌}
 use Rattle.xor_obfuscation.specs.Xor.{char_bits}
-use Rattle.xor_obfuscation.proofs.Derived.{bits_more, bits_none}
 use Rattle.xor_obfuscation.proofs.char_key.Given as goal
 
 abbrev pub invariant-loop-n : goal.invariant-loop-n

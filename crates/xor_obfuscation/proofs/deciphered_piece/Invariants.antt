@@ -1,14 +1,9 @@
 -- `xor_obfuscation::deciphered_piece` meets its contract: after i turns the first i bytes are deciphered.
 -- Assumes nothing.
-use borrow.Author.Rules.{rules}
-use mathlib.Core.Path.{◌≡◌, refl, sym, ◌∙◌}
-use native.Mathlib.Omega.{arith}
-use native.Mathlib.Nat.{le_of_eq}
+use mathlib.Core.Path.{◌≡◌}
 use Prim.Native.Nat.{ℕ, ◌+◌, ◌≤◌, ◌-◌}
 use lib.ListN.{length, get_or, take}
-use lib.Seq.{take_all}
 use Rattle.laws.specs.Offsets.{tabulate}
-use Rattle.laws.proofs.Offsets.{tabulate_store}
 use Rattle.xor_obfuscation.specs.declared.Way.TheVariants.{Decrypt}
 use Rattle.xor_obfuscation.specs.Xor.{ciphered}
 use Rattle.xor_obfuscation.proofs.deciphered_piece.Given as goal

@@ -1,15 +1,12 @@
 -- `xor_obfuscation::deciphered_pieces` meets its contract: at each turn the bytes before the place are deciphered, and the last piece starts at or before it.
 -- Assumes nothing.
-use borrow.Author.Rules.{rules}
 use mathlib.Core.List.{List}
-use mathlib.Core.Path.{◌≡◌, refl, ◌∙◌}
-use native.Mathlib.Omega.{arith}
-use Prim.Native.Nat.{ℕ, ◌+◌, ◌≤◌, ◌-◌, ◌%◌}
+use mathlib.Core.Path.{◌≡◌}
+use Prim.Native.Nat.{ℕ, ◌≤◌, ◌-◌, ◌%◌}
 use lib.ListN.{length}
-use Rattle.laws.proofs.Written.{Written, written_none, written_join}
+use Rattle.laws.proofs.Written.{Written}
 use Rattle.xor_obfuscation.specs.declared.Way.TheVariants.{Decrypt}
 use Rattle.xor_obfuscation.specs.Xor.{twice_over, transformed_at}
-use Rattle.xor_obfuscation.proofs.Pieces.{last_start, piece_written, written_over}
 use Rattle.xor_obfuscation.proofs.deciphered_pieces.Given as goal
 
 abbrev pub invariant-loop-at : goal.invariant-loop-at

@@ -1,14 +1,9 @@
 -- `xor_obfuscation::doubled` meets its contract: after i turns the first i bytes are those of the array, over and over.
 -- Assumes nothing.
-use borrow.Author.Rules.{rules}
-use mathlib.Core.Path.{◌≡◌, refl, sym, ap, ◌∙◌}
-use native.Mathlib.Omega.{arith}
-use native.Mathlib.Nat.{le_of_eq}
+use mathlib.Core.Path.{◌≡◌}
 use Prim.Native.Nat.{ℕ, ◌≤◌, ◌-◌, ◌%◌}
 use lib.ListN.{length, get_or, take}
-use lib.Seq.{take_all}
 use Rattle.laws.specs.Offsets.{tabulate}
-use Rattle.laws.proofs.Offsets.{tabulate_store}
 use Rattle.xor_obfuscation.proofs.doubled.Given as goal
 
 abbrev pub invariant-loop-i : goal.invariant-loop-i

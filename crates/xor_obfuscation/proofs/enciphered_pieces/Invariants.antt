@@ -1,15 +1,12 @@
 -- `xor_obfuscation::enciphered_pieces` meets its contract: at each turn the bytes before the place, or all n, are enciphered; the last turn's piece ends at n.
 -- Assumes nothing.
-use borrow.Author.Rules.{rules}
 use mathlib.Core.List.{List}
-use mathlib.Core.Path.{◌≡◌, refl, ◌∙◌}
-use native.Mathlib.Omega.{arith}
-use Prim.Native.Nat.{ℕ, ◌+◌, ◌≤◌, ◌<◌, ◌-◌, ◌%◌, min}
+use mathlib.Core.Path.{◌≡◌}
+use Prim.Native.Nat.{ℕ, ◌+◌, ◌<◌, ◌-◌, min}
 use lib.ListN.{length}
-use Rattle.laws.proofs.Written.{Written, written_none}
+use Rattle.laws.proofs.Written.{Written}
 use Rattle.xor_obfuscation.specs.declared.Way.TheVariants.{Encrypt}
 use Rattle.xor_obfuscation.specs.Xor.{twice_over, transformed_at}
-use Rattle.xor_obfuscation.proofs.Pieces.{piece_written, written_over}
 use Rattle.xor_obfuscation.proofs.enciphered_pieces.Given as goal
 
 abbrev pub invariant-loop-at : goal.invariant-loop-at

@@ -3,7 +3,6 @@
 use mathlib.Core.Path.{refl}
 use borrow.Author.Tests.{eq-eqb, ne_eqb}
 use Rattle.laws.proofs.Choice.{stop, skip}
-use borrow.Author.Rules.{rules}
 use Rattle.xor_obfuscation.proofs.half.Goals as goal
 
 pub returns-then-i-eq1 : goal.returns-then-i-eq1

@@ -3,9 +3,7 @@
 use borrow.Author.Rules.{rules}
 use mathlib.Core.Path.{◌≡◌}
 use native.Mathlib.Omega.{arith}
-use Prim.Native.Nat.{◌+◌, ◌≤◌, ◌-◌}
-use lib.ListN.{length, drop}
-use Rattle.xor_obfuscation.specs.Xor.{walked}
+use Prim.Native.Nat.{◌+◌, ◌-◌}
 use Rattle.xor_obfuscation.proofs.Derived.{walked_more, walked_none, verifier_whole}
 use Rattle.xor_obfuscation.proofs.password_verifier.Goals as goal
 

@@ -1,12 +1,9 @@
 -- `xor_obfuscation::password_verifier` meets its contract: the loop has walked the bytes from n on, from the last to the first.
 -- Assumes nothing.
-use borrow.Author.Rules.{rules}
 use mathlib.Core.Path.{◌≡◌}
-use native.Mathlib.Omega.{arith}
-use Prim.Native.Nat.{◌+◌, ◌≤◌, ◌-◌}
+use Prim.Native.Nat.{◌≤◌}
 use lib.ListN.{length, drop}
 use Rattle.xor_obfuscation.specs.Xor.{walked}
-use Rattle.xor_obfuscation.proofs.Derived.{walked_more, walked_none, verifier_whole}
 use Rattle.xor_obfuscation.proofs.password_verifier.Given as goal
 
 abbrev pub invariant-loop-n : goal.invariant-loop-n

@@ -1,12 +1,8 @@
 -- `xor_obfuscation::put` meets its contract: after i turns the first i bytes are written.
 -- Assumes nothing.
-use borrow.Author.Rules.{rules}
-use mathlib.Core.Path.{◌≡◌, ap}
-use native.Mathlib.Nat.{add-zero, add_assoc}
-use native.Mathlib.Omega.{arith}
 use Prim.Native.Nat.{ℕ, ◌+◌, ◌≤◌, ◌-◌}
 use lib.ListN.{get_or}
-use Rattle.laws.proofs.Written.{Written, written_none, written_more}
+use Rattle.laws.proofs.Written.{Written}
 use Rattle.xor_obfuscation.proofs.put.Given as goal
 
 abbrev pub invariant-loop-i : goal.invariant-loop-i

@@ -1,6 +1,5 @@
 -- `xor_obfuscation::transform` meets its contract: short or long, it writes the bytes that both slices have room for.
 -- Assumes nothing.
-use borrow.Author.Rules.{rules}
 use Rattle.xor_obfuscation.proofs.Pieces.{transforms}
 use Rattle.xor_obfuscation.proofs.transform.Goals as goal
 

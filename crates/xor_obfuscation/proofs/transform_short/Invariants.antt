@@ -1,13 +1,9 @@
 -- `xor_obfuscation::transform_short` meets its contract: after k turns the first k bytes are put through;
 -- the start is reduced modulo 16 before the sum, which changes no remainder.
 -- Assumes nothing.
-use borrow.Author.Rules.{rules}
-use mathlib.Core.Path.{◌≡◌, ◌∙◌}
-use native.Mathlib.Omega.{arith}
-use Prim.Native.Nat.{◌+◌, ◌≤◌, ◌-◌, ◌%◌}
-use Rattle.laws.proofs.Written.{Written, written_none, written_more}
+use Prim.Native.Nat.{◌≤◌, ◌-◌}
+use Rattle.laws.proofs.Written.{Written}
 use Rattle.xor_obfuscation.specs.Xor.{transformed_at}
-use Rattle.xor_obfuscation.proofs.Pieces.{ciphered_at}
 use Rattle.xor_obfuscation.proofs.transform_short.Given as goal
 
 abbrev pub invariant-loop-k : goal.invariant-loop-k

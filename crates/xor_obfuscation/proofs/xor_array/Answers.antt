@@ -3,9 +3,7 @@
 use borrow.Author.Rules.{rules}
 use mathlib.Core.Path.{◌≡◌, refl, sym, ◌∙◌}
 use native.Mathlib.Omega.{arith}
-use Prim.Native.Nat.{◌≤◌, ◌-◌}
 use native.Mathlib.Nat.{le_of_eq}
-use lib.ListN.{length, take}
 use lib.Seq.{take_all}
 use Rattle.laws.specs.Offsets.{tabulate}
 use Rattle.laws.proofs.Offsets.{tabulate_store}

@@ -3,9 +3,8 @@
 use borrow.Author.Rules.{rules}
 use mathlib.Core.Path.{◌≡◌}
 use native.Mathlib.Omega.{arith}
-use Prim.Native.Nat.{◌+◌, ◌*◌, ◌≤◌, ◌-◌}
-use lib.ListN.{length, drop}
-use Rattle.xor_obfuscation.specs.Xor.{key_from}
+use Prim.Native.Nat.{◌+◌, ◌*◌, ◌-◌}
+use lib.ListN.{length}
 use Rattle.xor_obfuscation.proofs.Derived.{key_more, key_none, key_short, key_long, key_whole}
 use Rattle.xor_obfuscation.proofs.xor_key.Goals as goal
 

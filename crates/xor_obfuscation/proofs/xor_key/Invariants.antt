@@ -1,12 +1,9 @@
 -- `xor_obfuscation::xor_key` meets its contract: the loop has taken the characters from n on, seven elements for each; the first character is left for the end, where the element is not lowered any more.
 -- Assumes nothing.
-use borrow.Author.Rules.{rules}
 use mathlib.Core.Path.{◌≡◌}
-use native.Mathlib.Omega.{arith}
 use Prim.Native.Nat.{◌+◌, ◌*◌, ◌≤◌, ◌-◌}
 use lib.ListN.{length, drop}
 use Rattle.xor_obfuscation.specs.Xor.{key_from}
-use Rattle.xor_obfuscation.proofs.Derived.{key_more, key_none, key_short, key_long, key_whole}
 use Rattle.xor_obfuscation.proofs.xor_key.Given as goal
 
 abbrev pub invariant-loop-n : goal.invariant-loop-n
