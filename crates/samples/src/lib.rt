@@ -6,6 +6,10 @@ ghost use Rattle.std.specs.Prelude.{◌≡◌, ◌<◌, ◌≤◌, ◌^◌, leng
 ghost use Rattle.laws.specs.Offsets.{tabulate};
 ghost use Rattle.samples.specs.Sample.{part_at, number_at, lent_at, Within};
 
+use std::io::Read;
+use std::rt::Files;
+use std::{fs, io};
+
 // What came of reading a file: how many bytes, or that it can't be read.
 #[derive(Clone, Copy)]
 pub enum Loaded {
@@ -57,47 +61,49 @@ pub fn lend(buffer: &mut [u8])
     }
 }
 
-// Reads what follows in an open file until the buffer is full or the file ends.
-fn fill(file: i32, buffer: &mut [u8]) -> Loaded
+// Says on standard error why a file can't be read.
+fn failed(rt: &impl Eprint, path: &str, error: io::Error) -> Loaded
+    ensures { result ≡ Loaded.Failed }
+{
+    let _ = eprintln!(rt; "{path}: {error}");
+    Loaded::Failed
+}
+
+// Reads what follows in an open file until the buffer is full or the file ends. Where it can't be read, says so on standard
+// error, by its path.
+fn fill(rt: &impl Eprint, path: &str, file: &mut impl Read, buffer: &mut [u8]) -> Loaded
     ensures { Within result (length buffer.old) }
 {
     let mut done: usize = 0;
     while done < buffer.len() {
-        let got = libc::read(file, &mut buffer[done..]);
-        if got < 0 {
-            return Loaded::Failed;
+        match file.read(&mut buffer[done..]) {
+            Ok(0) => return Loaded::Bytes(done),
+            Ok(more) => done += more,
+            Err(error) => return failed(rt, path, error),
         }
-        let more = io::count(got, &buffer[done..]);
-        if more == 0 {
-            return Loaded::Bytes(done);
-        }
-        done += more;
     }
     Loaded::Bytes(done)
 }
 
-// Reads a file into a buffer, as far as there is room. Where it can't be read, says so on standard error.
-pub fn load(path: &[u8], buffer: &mut [u8]) -> Loaded
+// Reads a file into a buffer, as far as there is room. Where it can't be read, says so on standard error. A path is UTF-8.
+pub fn load<R: Files + Eprint>(rt: &R, path: &[u8], buffer: &mut [u8]) -> Loaded
     ensures { Within result (length buffer.old) }
 {
-    let file = os::open_read(path);
-    if file < 0 {
-        os::fail(path);
+    let Ok(path) = str::from_utf8(path) else {
+        let _ = eprintln!(rt; "a path is not UTF-8");
         return Loaded::Failed;
+    };
+    match fs::open(rt, path) {
+        Ok(mut file) => fill(rt, path, &mut file, buffer),
+        Err(error) => failed(rt, path, error),
     }
-    let loaded = fill(file, buffer);
-    if let Loaded::Failed = loaded {
-        os::fail(path);
-    }
-    libc::close(file);
-    loaded
 }
 
 // Reads a file into a buffer, as far as there is room, and returns how many bytes: none where it can't be read.
-pub fn read(path: &[u8], buffer: &mut [u8]) -> usize
+pub fn read<R: Files + Eprint>(rt: &R, path: &[u8], buffer: &mut [u8]) -> usize
     ensures { result ≤ length buffer.old }
 {
-    match load(path, buffer) {
+    match load(rt, path, buffer) {
         Loaded::Bytes(n) => n,
         Loaded::Failed => 0,
     }

@@ -1,0 +1,9 @@
+-- No more than the buffer's length is done, and less is left with each read.
+use Rattle.std.proofs.Common.{◌≤◌, ◌-◌, length}
+use Rattle.samples.proofs.fill.Given as goal
+
+abbrev pub invariant-loop-done : goal.invariant-loop-done
+invariant-loop-done g l = l.done ≤ length l.buffer
+
+abbrev pub decreases-loop-done : goal.decreases-loop-done
+decreases-loop-done g l = length l.buffer - l.done
