@@ -4,8 +4,8 @@
 
 ghost use Rattle.std.specs.Prelude.{◌≡◌, length};
 
-use libc::STDOUT_FILENO;
 use samples::Loaded;
+use std::io;
 
 // One byte more than the longest stream that is listed: of a longer one the rest does not matter.
 fn stream_buffer() -> [u8; 32769]
@@ -22,18 +22,19 @@ fn text_buffer() -> [u8; 131072]
 }
 
 // Writes the listing of a stream.
-fn list(stream: &[u8]) {
+fn list(rt: &impl Print, stream: &[u8]) -> io::Result<()> {
     let mut text = text_buffer();
     let len = listing_text::listing(stream, &mut text);
     if len <= text.len() {
-        io::write_all(STDOUT_FILENO, &text[0..len]);
+        return rt.write_all(&text[0..len]);
     }
+    Ok(())
 }
 
-fn main() {
+fn main(rt: HostRuntime) -> io::Result<()> {
     let mut stream = stream_buffer();
-    match samples::load(b"book.bin", &mut stream) {
-        Loaded::Bytes(n) => list(&stream[0..n]),
-        Loaded::Failed => {}
+    match samples::load(&rt, b"book.bin", &mut stream) {
+        Loaded::Bytes(n) => list(&rt, &stream[0..n]),
+        Loaded::Failed => Ok(()),
     }
 }

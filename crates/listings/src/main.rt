@@ -4,7 +4,7 @@
 
 ghost use Rattle.std.specs.Prelude.{◌≡◌, length};
 
-use libc::STDOUT_FILENO;
+use std::io;
 
 fn data_buffer() -> [u8; 196608]
     ensures { 196608 ≡ length result }
@@ -13,38 +13,36 @@ fn data_buffer() -> [u8; 196608]
 }
 
 // Writes the listing of a stream.
-fn list(stream: &[u8]) {
+fn list(rt: &impl Print, stream: &[u8]) -> io::Result<()> {
     let mut text = data_buffer();
     let len = listing_text::listing(stream, &mut text);
     if len <= text.len() {
-        io::write_all(STDOUT_FILENO, &text[0..len]);
+        return rt.write_all(&text[0..len]);
     }
+    Ok(())
 }
 
 // Writes the line before a listing.
-fn announce(number: u64, len: usize) {
-    io::write_all(STDOUT_FILENO, b"stream ");
-    io::print_decimal(STDOUT_FILENO, number);
-    io::write_all(STDOUT_FILENO, b": ");
-    io::print_decimal(STDOUT_FILENO, len as u64);
-    io::write_all(STDOUT_FILENO, b" bytes\n");
+fn announce(rt: &impl Print, number: u64, len: usize) -> io::Result<()> {
+    println!(rt; "stream {number}: {len} bytes")
 }
 
 // Writes the listings of all streams: each comes after its length of four bytes.
-fn list_all(all: &[u8]) {
+fn list_all(rt: &impl Print, all: &[u8]) -> io::Result<()> {
     let mut number: u64 = 1;
     let mut at: usize = 0;
     while at < all.len() {
         let len = samples::number(all, at);
-        announce(number, len);
-        list(samples::part(all, at + 4, len));
+        announce(rt, number, len)?;
+        list(rt, samples::part(all, at + 4, len))?;
         number = std::num::wrapping_add_u64(number, 1);
         at = at + 4 + len;
     }
+    Ok(())
 }
 
-fn main() {
+fn main(rt: HostRuntime) -> io::Result<()> {
     let mut all = data_buffer();
-    let n = samples::read(b"streams", &mut all);
-    list_all(&all[0..n]);
+    let n = samples::read(&rt, b"streams", &mut all);
+    list_all(&rt, &all[0..n])
 }
