@@ -4,8 +4,8 @@
 
 ghost use Rattle.std.specs.Prelude.{◌≡◌, length};
 
-use libc::STDOUT_FILENO;
 use samples::{number, part};
+use std::io;
 
 fn data_buffer() -> [u8; 262144]
     ensures { 262144 ≡ length result }
@@ -13,51 +13,52 @@ fn data_buffer() -> [u8; 262144]
     [0; 262144]
 }
 
-fn word(text: &[u8]) {
-    io::write_all(STDOUT_FILENO, text);
+fn word(rt: &impl Print, text: &[u8]) -> io::Result<()> {
+    rt.write_all(text)
 }
 
-fn count(n: usize) {
-    io::print_decimal(STDOUT_FILENO, n as u64);
+fn count(rt: &impl Print, n: usize) -> io::Result<()> {
+    print!(rt; "{n}")
 }
 
 // Writes an answer and its eight facts.
-fn tell(answer: u32, facts: &[u64; 8]) {
-    word(b" directory ");
-    io::print_decimal(STDOUT_FILENO, answer as u64);
-    word(b":");
+fn tell(rt: &impl Print, answer: u32, facts: &[u64; 8]) -> io::Result<()> {
+    word(rt, b" directory ")?;
+    print!(rt; "{answer}")?;
+    word(rt, b":")?;
     let mut i = 0;
     while i < 8 {
-        word(b" ");
-        io::print_decimal(STDOUT_FILENO, facts[i]);
+        word(rt, b" ")?;
+        rt.print(facts[i])?;
         i += 1;
     }
-    word(b"\n");
+    word(rt, b"\n")
 }
 
 // Asks for the directory of a stream at a place. The facts are lent full, so that one that is not written shows.
-fn ask(name: &[u8], stream: &[u8], place: usize) {
+fn ask(rt: &impl Print, name: &[u8], stream: &[u8], place: usize) -> io::Result<()> {
     let mut told = [0xA5A5_A5A5_A5A5_A5A5u64; 8];
     let answer = sheet::sheet_directory(stream, place, &mut told);
-    word(name);
-    word(b", place ");
-    count(place);
-    tell(answer, &told);
+    word(rt, name)?;
+    word(rt, b", place ")?;
+    count(rt, place)?;
+    tell(rt, answer, &told)
 }
 
 // Asks for the directory of a stream at each of the places, of eight bytes each, the lower first.
-fn ask_all(name: &[u8], stream: &[u8], places: &[u8]) {
+fn ask_all(rt: &impl Print, name: &[u8], stream: &[u8], places: &[u8]) -> io::Result<()> {
     let mut at: usize = 0;
     while at < places.len() {
         let low = number(places, at);
         let high = number(places, at + 4);
-        ask(name, stream, low + high * 4294967296);
+        ask(rt, name, stream, low + high * 4294967296)?;
         at += 8;
     }
+    Ok(())
 }
 
 // Runs all cases: name, stream and places, each after its length; each place is a case.
-fn run_all(data: &[u8]) {
+fn run_all(rt: &impl Print, data: &[u8]) -> io::Result<()> {
     let mut cases: u64 = 0;
     let mut at: usize = 0;
     while at < data.len() {
@@ -66,19 +67,20 @@ fn run_all(data: &[u8]) {
         let places = number(data, at + 8 + name + stream);
         let end = at + 12 + name + stream;
         ask_all(
+            rt,
             part(data, at + 4, name),
             part(data, at + 8 + name, stream),
             part(data, end, places),
-        );
+        )?;
         cases = std::num::wrapping_add_u64(cases, (places / 8) as u64);
         at = end + places;
     }
-    io::print_decimal(STDOUT_FILENO, cases);
-    word(b" cases\n");
+    print!(rt; "{cases}")?;
+    word(rt, b" cases\n")
 }
 
-fn main() {
+fn main(rt: HostRuntime) -> io::Result<()> {
     let mut data = data_buffer();
-    let n = samples::read(b"cases", &mut data);
-    run_all(&data[0..n]);
+    let n = samples::read(&rt, b"cases", &mut data);
+    run_all(&rt, &data[0..n])
 }

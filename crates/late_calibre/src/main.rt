@@ -5,8 +5,8 @@
 
 ghost use Rattle.std.specs.Prelude.{◌≡◌, length};
 
-use libc::STDOUT_FILENO;
 use samples::{number, part};
+use std::io;
 
 // The lift angle in degrees, or none.
 #[derive(Clone, Copy)]
@@ -50,66 +50,64 @@ fn last_angle(sheet: &[u8]) -> Angle {
     }
 }
 
-fn tell_angle(angle: Angle) {
+fn tell_angle(rt: &impl Print, angle: Angle) -> io::Result<()> {
     match angle {
-        Angle::Degrees(n) => {
-            io::print_decimal(STDOUT_FILENO, n as u64);
-        }
-        Angle::NoAngle => {
-            io::write_all(STDOUT_FILENO, b"no angle");
-        }
+        Angle::Degrees(n) => print!(rt; "{n}"),
+        Angle::NoAngle => rt.write_all(b"no angle"),
     }
 }
 
 // Writes what opening took.
-fn tell_counts(report: excel97::Report) {
-    io::write_all(STDOUT_FILENO, b"; ");
-    io::print_decimal(STDOUT_FILENO, report.output_bytes as u64);
-    io::write_all(STDOUT_FILENO, b" bytes, ");
-    io::print_decimal(STDOUT_FILENO, report.records as u64);
-    io::write_all(STDOUT_FILENO, b" records, ");
-    io::print_decimal(STDOUT_FILENO, report.enciphered_body_bytes as u64);
-    io::write_all(STDOUT_FILENO, b" bytes enciphered, ");
-    io::print_decimal(STDOUT_FILENO, report.block_keys as u64);
-    io::write_all(STDOUT_FILENO, b" block keys");
+fn tell_counts(rt: &impl Print, report: excel97::Report) -> io::Result<()> {
+    rt.write_all(b"; ")?;
+    rt.print(report.output_bytes)?;
+    rt.write_all(b" bytes, ")?;
+    rt.print(report.records)?;
+    rt.write_all(b" records, ")?;
+    rt.print(report.enciphered_body_bytes)?;
+    rt.write_all(b" bytes enciphered, ")?;
+    rt.print(report.block_keys)?;
+    rt.write_all(b" block keys")
 }
 
 // Opens a sheet and writes the last calibre's lift angle with what opening took, or the refusal.
-fn measure(password: &[u8], stream: &[u8]) {
+fn measure(rt: &impl Print, password: &[u8], stream: &[u8]) -> io::Result<()> {
     let mut scratch = [0u8; 64];
     let mut output = [0u8; 4096];
     match excel97::open(stream, password, &mut scratch, &mut output) {
         excel97::Answer::Opened(report) => {
-            tell_angle(last_angle(part(&output, 0, stream.len())));
-            tell_counts(report);
+            tell_angle(rt, last_angle(part(&output, 0, stream.len())))?;
+            tell_counts(rt, report)?;
         }
         excel97::Answer::Refused(refusal) => {
-            io::write_all(STDOUT_FILENO, b"refused, ");
-            io::print_decimal(STDOUT_FILENO, file_params::number(refusal) as u64);
+            rt.write_all(b"refused, ")?;
+            rt.print(file_params::number(refusal))?;
         }
     }
-    io::write_all(STDOUT_FILENO, b"\n");
+    rt.write_all(b"\n")
 }
 
 // Goes through all sheets: heading, password and stream, each after its length.
-fn measure_all(data: &[u8]) {
+fn measure_all(rt: &impl Print, data: &[u8]) -> io::Result<()> {
     let mut at: usize = 0;
     while at < data.len() {
         let heading = number(data, at);
         let password = number(data, at + 4 + heading);
         let stream = number(data, at + 8 + heading + password);
-        io::write_all(STDOUT_FILENO, part(data, at + 4, heading));
-        io::write_all(STDOUT_FILENO, b": ");
+        rt.write_all(part(data, at + 4, heading))?;
+        rt.write_all(b": ")?;
         measure(
+            rt,
             part(data, at + 8 + heading, password),
             part(data, at + 12 + heading + password, stream),
-        );
+        )?;
         at = at + 12 + heading + password + stream;
     }
+    Ok(())
 }
 
-fn main() {
+fn main(rt: HostRuntime) -> io::Result<()> {
     let mut data = data_buffer();
-    let n = samples::read(b"sheets", &mut data);
-    measure_all(&data[0..n]);
+    let n = samples::read(&rt, b"sheets", &mut data);
+    measure_all(&rt, &data[0..n])
 }

@@ -7,8 +7,9 @@
 
 ghost use Rattle.std.specs.Prelude.{◌≡◌, length};
 
-use libc::STDOUT_FILENO;
 use samples::{lent_byte, number, part};
+use std::io;
+use std::rt::Files;
 
 fn data_buffer() -> [u8; 262144]
     ensures { 262144 ≡ length result }
@@ -204,33 +205,31 @@ fn run_all(data: &[u8], counts: &mut [u64; KINDS]) {
 }
 
 // Runs the cases of a file.
-fn run_file(path: &[u8], counts: &mut [u64; KINDS]) {
+fn run_file<R: Files + Eprint>(rt: &R, path: &[u8], counts: &mut [u64; KINDS]) {
     let mut data = data_buffer();
-    let n = samples::read(path, &mut data);
+    let n = samples::read(rt, path, &mut data);
     run_all(&data[0..n], counts);
 }
 
-fn main() {
+fn main(rt: HostRuntime) -> io::Result<()> {
     let mut counts = [0u64; KINDS];
-    run_file(b"cases_1", &mut counts);
-    run_file(b"cases_2", &mut counts);
-    run_file(b"cases_3", &mut counts);
-    run_file(b"cases_4", &mut counts);
-    let mut k = 0;
+    run_file(&rt, b"cases_1", &mut counts);
+    run_file(&rt, b"cases_2", &mut counts);
+    run_file(&rt, b"cases_3", &mut counts);
+    run_file(&rt, b"cases_4", &mut counts);
+    let mut k: usize = 0;
     while k < 28 {
-        io::print_decimal(STDOUT_FILENO, k as u64);
-        io::write_all(STDOUT_FILENO, b"\t");
-        io::print_decimal(STDOUT_FILENO, counts[k]);
-        io::write_all(STDOUT_FILENO, b"\n");
+        rt.print(k)?;
+        rt.write_all(b"\t")?;
+        rt.println(counts[k])?;
         k += 1;
     }
-    io::write_all(STDOUT_FILENO, b"key size 0 as 40\t");
-    io::print_decimal(STDOUT_FILENO, counts[29]);
-    io::write_all(STDOUT_FILENO, b"\npadded\t");
-    io::print_decimal(STDOUT_FILENO, counts[31]);
-    io::write_all(STDOUT_FILENO, b"\nforecasts that tell\t");
-    io::print_decimal(STDOUT_FILENO, counts[30]);
-    io::write_all(STDOUT_FILENO, b"\n");
-    io::print_decimal(STDOUT_FILENO, counts[28]);
-    io::write_all(STDOUT_FILENO, b" differ\n");
+    rt.write_all(b"key size 0 as 40\t")?;
+    rt.print(counts[29])?;
+    rt.write_all(b"\npadded\t")?;
+    rt.print(counts[31])?;
+    rt.write_all(b"\nforecasts that tell\t")?;
+    rt.println(counts[30])?;
+    rt.print(counts[28])?;
+    rt.write_all(b" differ\n")
 }

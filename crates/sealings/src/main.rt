@@ -5,8 +5,9 @@
 
 ghost use Rattle.std.specs.Prelude.{◌≡◌, ◌≤◌, length};
 
-use libc::STDOUT_FILENO;
 use samples::{lent_byte, number, part};
+use std::io;
+use std::rt::Files;
 
 fn data_buffer() -> [u8; 262144]
     ensures { 262144 ≡ length result }
@@ -20,12 +21,12 @@ fn at_most(n: usize, most: usize) -> usize
     if n < most { n } else { most }
 }
 
-fn word(text: &[u8]) {
-    io::write_all(STDOUT_FILENO, text);
+fn word(rt: &impl Print, text: &[u8]) -> io::Result<()> {
+    rt.write_all(text)
 }
 
-fn decimal(n: u64) {
-    io::print_decimal(STDOUT_FILENO, n);
+fn decimal(rt: &impl Print, n: u64) -> io::Result<()> {
+    print!(rt; "{n}")
 }
 
 // What came of sealing or opening: 0 or the refusal's number, and the facts of the report or the refusal's two details.
@@ -135,47 +136,56 @@ fn scratch_same(scratch: &[u8], answer: usize) -> bool {
 
 // Writes that something of a case is not as wanted, and what it is by its number and first facts. Tells whether it is as
 // wanted.
-fn expect(ok: bool, name: &[u8], what: &[u8], told: Told) -> bool {
+fn expect(rt: &impl Print, ok: bool, name: &[u8], what: &[u8], told: Told) -> io::Result<bool> {
     if !ok {
         let facts = told.facts;
-        word(name);
-        word(b": ");
-        word(what);
-        word(b", after answer ");
-        decimal(told.number as u64);
-        word(b" with ");
-        decimal(facts[0]);
-        word(b" and ");
-        decimal(facts[1]);
-        word(b"\n");
+        word(rt, name)?;
+        word(rt, b": ")?;
+        word(rt, what)?;
+        word(rt, b", after answer ")?;
+        decimal(rt, told.number as u64)?;
+        word(rt, b" with ")?;
+        decimal(rt, facts[0])?;
+        word(rt, b" and ")?;
+        decimal(rt, facts[1])?;
+        word(rt, b"\n")?;
     }
-    ok
+    Ok(ok)
 }
 
 // Whether a sealed stream opens with its password, to the plain stream and with the facts wanted.
-fn opens(name: &[u8], stream: &[u8], password: &[u8], plain: &[u8], facts: &[u8]) -> bool {
+fn opens(
+    rt: &impl Print,
+    name: &[u8],
+    stream: &[u8],
+    password: &[u8],
+    plain: &[u8],
+    facts: &[u8],
+) -> io::Result<bool> {
     let mut scratch = [0u8; 70];
     let mut output = [0u8; 8192];
     samples::lend(&mut scratch);
     samples::lend(&mut output);
     let told = opened(excel97::open(stream, password, &mut scratch, &mut output));
     let fine = (told.number == 0) & facts_same(&told.facts, facts);
-    let answer = expect(fine, name, b"what opening it answers", told);
+    let answer = expect(rt, fine, name, b"what opening it answers", told)?;
     let kept = output_same(&output, plain) & scratch_same(&scratch, 0);
-    answer & expect(kept, name, b"what opening it leaves", told)
+    let left = expect(rt, kept, name, b"what opening it leaves", told)?;
+    Ok(answer & left)
 }
 
 // Whether a sealed stream is refused by 27 with another password.
-fn shuts(name: &[u8], stream: &[u8], other: &[u8]) -> bool {
+fn shuts(rt: &impl Print, name: &[u8], stream: &[u8], other: &[u8]) -> io::Result<bool> {
     let mut scratch = [0u8; 70];
     let mut output = [0u8; 8192];
     samples::lend(&mut scratch);
     samples::lend(&mut output);
     let told = opened(excel97::open(stream, other, &mut scratch, &mut output));
     let fine = (told.number == 27) & facts_same(&told.facts, b"");
-    let answer = expect(fine, name, b"what another password answers", told);
+    let answer = expect(rt, fine, name, b"what another password answers", told)?;
     let kept = as_lent(&output, 0) & scratch_same(&scratch, 27);
-    answer & expect(kept, name, b"what another password leaves", told)
+    let left = expect(rt, kept, name, b"what another password leaves", told)?;
+    Ok(answer & left)
 }
 
 // Sixteen bytes at an offset, zeros where they do not lie within.
@@ -216,6 +226,7 @@ fn counted(counts: &mut [u64; KINDS], k: usize) {
 // Seals a stream with what is lent. Tells whether all is as wanted. The terms are the lock, the major version, the key size,
 // the lengths of scratch and output, the answer's number and seven facts, and salt and verifier.
 fn seal_lent(
+    rt: &impl Print,
     name: &[u8],
     password: &[u8],
     plain: &[u8],
@@ -223,22 +234,35 @@ fn seal_lent(
     terms: &[u8],
     scratch: &mut [u8],
     output: &mut [u8],
-) -> bool {
+) -> io::Result<bool> {
     let choice = choice_of(number(terms, 0), number(terms, 4), number(terms, 8));
     let salt = sixteen(terms, 52);
     let verifier = sixteen(terms, 68);
     let answer = number(terms, 20);
     let told = sealed(sealing::seal(plain, password, choice, salt, verifier, scratch, output));
-    let answered = expect(told.number as usize == answer, name, b"the answer", told);
+    let answered = expect(
+        rt,
+        told.number as usize == answer,
+        name,
+        b"the answer",
+        told,
+    )?;
     let same = facts_same(&told.facts, part(terms, 24, 28));
-    let facts = expect(same, name, b"the facts", told);
-    let written = expect(output_same(output, want), name, b"the output", told);
-    let wiped = expect(scratch_same(scratch, answer), name, b"the scratch", told);
-    answered & facts & written & wiped
+    let facts = expect(rt, same, name, b"the facts", told)?;
+    let written = expect(rt, output_same(output, want), name, b"the output", told)?;
+    let wiped = expect(
+        rt,
+        scratch_same(scratch, answer),
+        name,
+        b"the scratch",
+        told,
+    )?;
+    Ok(answered & facts & written & wiped)
 }
 
 // Seals a stream with what is lent, and opens it where it is to be sealed. Counts what came of it.
 fn run_lent(
+    rt: &impl Print,
     name: &[u8],
     password: &[u8],
     other: &[u8],
@@ -248,8 +272,8 @@ fn run_lent(
     scratch: &mut [u8],
     output: &mut [u8],
     counts: &mut [u64; KINDS],
-) {
-    let mut same = seal_lent(name, password, plain, want, terms, scratch, output);
+) -> io::Result<()> {
+    let mut same = seal_lent(rt, name, password, plain, want, terms, scratch, output)?;
     let answer = number(terms, 20);
     if same {
         counted(
@@ -263,8 +287,8 @@ fn run_lent(
     }
     if answer == 0 {
         let stream = part(output, 0, plain.len());
-        let again = opens(name, stream, password, plain, part(terms, 24, 28));
-        let shut = shuts(name, stream, other);
+        let again = opens(rt, name, stream, password, plain, part(terms, 24, 28))?;
+        let shut = shuts(rt, name, stream, other)?;
         if again {
             counted(counts, 36);
         }
@@ -277,10 +301,12 @@ fn run_lent(
     if !same {
         counted(counts, 39);
     }
+    Ok(())
 }
 
 // Runs a case, with a scratch and an output of the lengths that its terms name.
 fn run(
+    rt: &impl Print,
     name: &[u8],
     password: &[u8],
     other: &[u8],
@@ -288,7 +314,7 @@ fn run(
     want: &[u8],
     terms: &[u8],
     counts: &mut [u64; KINDS],
-) {
+) -> io::Result<()> {
     let mut scratch = [0u8; 8192];
     let mut output = [0u8; 8192];
     samples::lend(&mut scratch);
@@ -296,6 +322,7 @@ fn run(
     let s = at_most(number(terms, 12), 8192);
     let o = at_most(number(terms, 16), 8192);
     run_lent(
+        rt,
         name,
         password,
         other,
@@ -305,12 +332,12 @@ fn run(
         &mut scratch[0..s],
         &mut output[0..o],
         counts,
-    );
+    )
 }
 
 // Runs a case of the data: the terms, and then name, password, another password, plain stream and sealed stream, each after
 // its length.
-fn run_case(data: &[u8], counts: &mut [u64; KINDS]) {
+fn run_case(rt: &impl Print, data: &[u8], counts: &mut [u64; KINDS]) -> io::Result<()> {
     let name = number(data, 84);
     let password_at = 92 + name;
     let password = number(data, 88 + name);
@@ -321,6 +348,7 @@ fn run_case(data: &[u8], counts: &mut [u64; KINDS]) {
     let want_at = plain_at_lem + plain + 4;
     let want = number(data, plain_at_lem + plain);
     run(
+        rt,
         part(data, 88, name),
         part(data, password_at, password),
         part(data, other_at, other),
@@ -328,62 +356,68 @@ fn run_case(data: &[u8], counts: &mut [u64; KINDS]) {
         part(data, want_at, want),
         part(data, 0, 84),
         counts,
-    );
+    )
 }
 
 // Runs the cases of a part of the data, each after its length.
-fn run_all(data: &[u8], counts: &mut [u64; KINDS]) {
+fn run_all(rt: &impl Print, data: &[u8], counts: &mut [u64; KINDS]) -> io::Result<()> {
     let mut at: usize = 0;
     while at < data.len() {
         let len = number(data, at);
-        run_case(part(data, at + 4, len), counts);
+        run_case(rt, part(data, at + 4, len), counts)?;
         at = at + 4 + len;
     }
+    Ok(())
 }
 
 // Runs the cases of a file.
-fn run_file(path: &[u8], counts: &mut [u64; KINDS]) {
+fn run_file<R: Files + Print + Eprint>(
+    rt: &R,
+    path: &[u8],
+    counts: &mut [u64; KINDS],
+) -> io::Result<()> {
     let mut data = data_buffer();
-    let n = samples::read(path, &mut data);
-    run_all(&data[0..n], counts);
+    let n = samples::read(rt, path, &mut data);
+    run_all(rt, &data[0..n], counts)
 }
 
 // Writes a line of the counts.
-fn tell(what: &[u8], n: u64) {
-    word(what);
-    word(b"\t");
-    decimal(n);
-    word(b"\n");
+fn tell(rt: &impl Print, what: &[u8], n: u64) -> io::Result<()> {
+    word(rt, what)?;
+    word(rt, b"\t")?;
+    decimal(rt, n)?;
+    word(rt, b"\n")
 }
 
 // Writes how many cases were refused, by number.
-fn tell_refused(counts: &[u64; KINDS]) {
+fn tell_refused(rt: &impl Print, counts: &[u64; KINDS]) -> io::Result<()> {
     let mut k = 1;
     while k < 33 {
         if 0 < counts[k] {
-            word(b"refused by ");
-            decimal(k as u64);
-            word(b"\t");
-            decimal(counts[k]);
-            word(b"\n");
+            word(rt, b"refused by ")?;
+            decimal(rt, k as u64)?;
+            word(rt, b"\t")?;
+            decimal(rt, counts[k])?;
+            word(rt, b"\n")?;
         }
         k += 1;
     }
+    Ok(())
 }
 
-fn main() {
+fn main(rt: HostRuntime) -> io::Result<()> {
     let mut counts = [0u64; KINDS];
-    run_file(b"cases_1", &mut counts);
-    run_file(b"cases_2", &mut counts);
-    run_file(b"cases_3", &mut counts);
-    tell(b"sealed under XOR", counts[33]);
-    tell(b"sealed under 1.1", counts[34]);
-    tell(b"sealed under CryptoAPI", counts[35]);
-    tell(b"opened again", counts[36]);
-    tell(b"refused with another password", counts[37]);
-    tell_refused(&counts);
-    decimal(counts[38]);
-    word(b" cases, ");
-    decimal(counts[39]);
-    word(b" differ\n");
+    run_file(&rt, b"cases_1", &mut counts)?;
+    run_file(&rt, b"cases_2", &mut counts)?;
+    run_file(&rt, b"cases_3", &mut counts)?;
+    tell(&rt, b"sealed under XOR", counts[33])?;
+    tell(&rt, b"sealed under 1.1", counts[34])?;
+    tell(&rt, b"sealed under CryptoAPI", counts[35])?;
+    tell(&rt, b"opened again", counts[36])?;
+    tell(&rt, b"refused with another password", counts[37])?;
+    tell_refused(&rt, &counts)?;
+    decimal(&rt, counts[38])?;
+    word(&rt, b" cases, ")?;
+    decimal(&rt, counts[39])?;
+    word(&rt, b" differ\n")
 }

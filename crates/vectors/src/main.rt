@@ -5,10 +5,11 @@
 
 ghost use Rattle.std.specs.Prelude.{◌≡◌, ◌^◌, ◌<◌, ◌≤◌, length};
 
-use libc::STDOUT_FILENO;
 use rc4::Keystream;
 use samples::{number, part};
 use sensitive::Encoded;
+use std::io;
+use std::rt::Files;
 use xor_obfuscation::XorKey;
 
 // How many vectors of a set ran, and how many differ.
@@ -221,64 +222,68 @@ fn large_buffer() -> [u8; 262144]
     [0; 262144]
 }
 
-fn report(name: &[u8], t: Tally) {
-    io::write_all(STDOUT_FILENO, name);
-    io::write_all(STDOUT_FILENO, b": ");
-    io::print_decimal(STDOUT_FILENO, t.run);
-    io::write_all(STDOUT_FILENO, b" run, ");
-    io::print_decimal(STDOUT_FILENO, t.differ);
-    io::write_all(STDOUT_FILENO, b" differ\n");
+fn report(rt: &impl Print, name: &[u8], t: Tally) -> io::Result<()> {
+    let run = t.run;
+    let differ = t.differ;
+    rt.write_all(name)?;
+    println!(rt; ": {run} run, {differ} differ")
 }
 
-fn report_md5(name: &[u8], path: &[u8]) {
+fn report_md5<R: Files + Print + Eprint>(rt: &R, name: &[u8], path: &[u8]) -> io::Result<()> {
     let mut data = [0u8; 4096];
-    let n = samples::read(path, &mut data);
-    report(name, md5_set(&data[0..n]));
+    let n = samples::read(rt, path, &mut data);
+    report(rt, name, md5_set(&data[0..n]))
 }
 
-fn report_sha1(name: &[u8], path: &[u8]) {
+fn report_sha1<R: Files + Print + Eprint>(rt: &R, name: &[u8], path: &[u8]) -> io::Result<()> {
     let mut data = large_buffer();
-    let n = samples::read(path, &mut data);
-    report(name, sha1_set(&data[0..n]));
+    let n = samples::read(rt, path, &mut data);
+    report(rt, name, sha1_set(&data[0..n]))
 }
 
-fn report_monte(name: &[u8], path: &[u8]) {
+fn report_monte<R: Files + Print + Eprint>(rt: &R, name: &[u8], path: &[u8]) -> io::Result<()> {
     let mut data = [0u8; 4096];
-    let n = samples::read(path, &mut data);
-    report(name, sha1_monte(&data[0..n]));
+    let n = samples::read(rt, path, &mut data);
+    report(rt, name, sha1_monte(&data[0..n]))
 }
 
-fn report_rc4(name: &[u8], path: &[u8]) {
+fn report_rc4<R: Files + Print + Eprint>(rt: &R, name: &[u8], path: &[u8]) -> io::Result<()> {
     let mut data = [0u8; 4096];
-    let n = samples::read(path, &mut data);
-    report(name, rc4_set(&data[0..n]));
+    let n = samples::read(rt, path, &mut data);
+    report(rt, name, rc4_set(&data[0..n]))
 }
 
-fn report_texts(name: &[u8], path: &[u8]) {
+fn report_texts<R: Files + Print + Eprint>(rt: &R, name: &[u8], path: &[u8]) -> io::Result<()> {
     let mut data = large_buffer();
-    let n = samples::read(path, &mut data);
-    report(name, text_set(&data[0..n]));
+    let n = samples::read(rt, path, &mut data);
+    report(rt, name, text_set(&data[0..n]))
 }
 
-fn report_xor(name: &[u8], path: &[u8]) {
+fn report_xor<R: Files + Print + Eprint>(rt: &R, name: &[u8], path: &[u8]) -> io::Result<()> {
     let mut data = [0u8; 8192];
-    let n = samples::read(path, &mut data);
-    report(name, xor_set(&data[0..n]));
+    let n = samples::read(rt, path, &mut data);
+    report(rt, name, xor_set(&data[0..n]))
 }
 
-fn main() {
-    report_md5(b"RFC 1321, MD5", b"rfc1321");
-    report_sha1(b"SHA-1 validation, short messages", b"sha1_short");
-    report_sha1(b"SHA-1 validation, long messages", b"sha1_long");
-    report_monte(b"SHA-1 validation, Monte Carlo checkpoints", b"sha1_monte");
-    report_rc4(b"RFC 6229, RC4 with keys of 5 bytes", b"rfc6229_5");
-    report_rc4(b"RFC 6229, RC4 with keys of 7 bytes", b"rfc6229_7");
-    report_rc4(b"RFC 6229, RC4 with keys of 8 bytes", b"rfc6229_8");
-    report_rc4(b"RFC 6229, RC4 with keys of 10 bytes", b"rfc6229_10");
-    report_rc4(b"RFC 6229, RC4 with keys of 16 bytes", b"rfc6229_16");
-    report_texts(b"UTF-8 to UTF-16LE, by CPython 3.11", b"texts");
+fn main(rt: HostRuntime) -> io::Result<()> {
+    report_md5(&rt, b"RFC 1321, MD5", b"rfc1321")?;
+    report_sha1(&rt, b"SHA-1 validation, short messages", b"sha1_short")?;
+    report_sha1(&rt, b"SHA-1 validation, long messages", b"sha1_long")?;
+    report_monte(
+        &rt,
+        b"SHA-1 validation, Monte Carlo checkpoints",
+        b"sha1_monte",
+    )?;
+    report_rc4(&rt, b"RFC 6229, RC4 with keys of 5 bytes", b"rfc6229_5")?;
+    report_rc4(&rt, b"RFC 6229, RC4 with keys of 7 bytes", b"rfc6229_7")?;
+    report_rc4(&rt, b"RFC 6229, RC4 with keys of 8 bytes", b"rfc6229_8")?;
+    report_rc4(&rt, b"RFC 6229, RC4 with keys of 10 bytes", b"rfc6229_10")?;
+    report_rc4(&rt, b"RFC 6229, RC4 with keys of 16 bytes", b"rfc6229_16")?;
+    report_texts(&rt, b"UTF-8 to UTF-16LE, by CPython 3.11", b"texts")?;
     report_xor(
+        &rt,
         b"XOR keys, verifiers and arrays, by Apache POI 4.0.1",
         b"xor",
-    );
+    )?;
+    Ok(())
 }
