@@ -1,5 +1,5 @@
-// The C interface: one thin function for each operation, documented in include/sheet.h. The caller lends a fixed
-// array of eight numbers for the facts.
+// The operations as C has them: one thin function for each, which include/sheet.h documents and the crate sheet_c exports. The caller
+// lends a fixed array of eight numbers for the facts.
 #![tactic(auto)]
 
 ghost use Rattle.std.specs.Prelude.{◌≡◌, replicate};
@@ -218,8 +218,7 @@ fn open_number(answer: excel97::Answer) -> u32
 }
 
 // Look.
-#[unsafe(no_mangle)]
-pub extern "C" fn sheet_look(stream: &[u8], told: &mut [u64; 8]) -> u32
+pub fn sheet_look(stream: &[u8], told: &mut [u64; 8]) -> u32
     ensures { (result ≡ look_number (look stream.now)) × (told.new ≡ look_facts (look stream.now)) }
 {
     let verdict = binary_office::look(stream);
@@ -228,16 +227,14 @@ pub extern "C" fn sheet_look(stream: &[u8], told: &mut [u64; 8]) -> u32
 }
 
 // Same lock.
-#[unsafe(no_mangle)]
-pub extern "C" fn sheet_same_lock(a: &[u8], b: &[u8]) -> bool
+pub fn sheet_same_lock(a: &[u8], b: &[u8]) -> bool
     ensures { result ≡ same_lock a.now b.now }
 {
     binary_office::same_lock(a, b)
 }
 
 // A step of the walk: what is at an offset.
-#[unsafe(no_mangle)]
-pub extern "C" fn sheet_record(stream: &[u8], at: usize, told: &mut [u64; 8]) -> u32
+pub fn sheet_record(stream: &[u8], at: usize, told: &mut [u64; 8]) -> u32
     ensures { (result ≡ record_number (step_at stream.now at)) × (told.new ≡ record_facts (step_at stream.now at)) }
 {
     let reached = binary_office::record_at(stream, at);
@@ -247,8 +244,7 @@ pub extern "C" fn sheet_record(stream: &[u8], at: usize, told: &mut [u64; 8]) ->
 }
 
 // The directory of sheets.
-#[unsafe(no_mangle)]
-pub extern "C" fn sheet_directory(stream: &[u8], place: usize, told: &mut [u64; 8]) -> u32
+pub fn sheet_directory(stream: &[u8], place: usize, told: &mut [u64; 8]) -> u32
     ensures { (result ≡ directory_number (directory stream.now place)) × (told.new ≡ directory_facts (directory stream.now place)) }
 {
     let answer = directory::directory(stream, place);
@@ -257,8 +253,7 @@ pub extern "C" fn sheet_directory(stream: &[u8], place: usize, told: &mut [u64; 
 }
 
 // What opening will take.
-#[unsafe(no_mangle)]
-pub extern "C" fn sheet_forecast(stream: &[u8], told: &mut [u64; 8]) -> u32
+pub fn sheet_forecast(stream: &[u8], told: &mut [u64; 8]) -> u32
     ensures { (result ≡ forecast_number (forecast stream.now)) × (told.new ≡ forecast_facts (forecast stream.now)) }
 {
     let answer = forecast::forecast(stream);
@@ -267,8 +262,7 @@ pub extern "C" fn sheet_forecast(stream: &[u8], told: &mut [u64; 8]) -> u32
 }
 
 // Open.
-#[unsafe(no_mangle)]
-pub extern "C" fn sheet_open(
+pub fn sheet_open(
     stream: &[u8],
     password: &[u8],
     scratch: &mut [u8],
@@ -312,8 +306,7 @@ fn seal(
 }
 
 // Sealing under XOR, which has neither salt nor verifier.
-#[unsafe(no_mangle)]
-pub extern "C" fn sheet_seal_xor(
+pub fn sheet_seal_xor(
     plain: &[u8],
     password: &[u8],
     scratch: &mut [u8],
@@ -336,8 +329,7 @@ pub extern "C" fn sheet_seal_xor(
 }
 
 // Sealing under 1.1.
-#[unsafe(no_mangle)]
-pub extern "C" fn sheet_seal_office97(
+pub fn sheet_seal_office97(
     plain: &[u8],
     password: &[u8],
     salt: &[u8; 16],
@@ -363,8 +355,7 @@ pub extern "C" fn sheet_seal_office97(
 }
 
 // Sealing under CryptoAPI.
-#[unsafe(no_mangle)]
-pub extern "C" fn sheet_seal_cryptoapi(
+pub fn sheet_seal_cryptoapi(
     plain: &[u8],
     password: &[u8],
     salt: &[u8; 16],
