@@ -1,27 +1,28 @@
 //! Has the library proved and links it.
 //!
-//! Runs `rt staticlib sheet` at the root of the project, which proves every crate that changed and
-//! writes `target/staticlib/libsheet.a`: some minutes from nothing, half a minute afterwards. Where the
+//! Runs `tools/archive sheet`, which has `rt` prove every crate that changed and writes
+//! `target/staticlib/libsheet.a`: some minutes from nothing, under a minute afterwards. Where the
 //! Rattle kit is not at hand, the environment variable `SHEET_ARCHIVE` takes its place: the path of
 //! a `libsheet.a` that was made elsewhere (a relative path counts from `host/`).
 
 use std::env;
 use std::fs;
-use std::io::ErrorKind;
 use std::path::{Path, PathBuf};
 use std::process::{exit, Command};
 
 fn main() {
-    println!("cargo:rerun-if-changed=build.rs");
-    println!("cargo:rerun-if-changed=../crates");
-    println!("cargo:rerun-if-changed=../include");
-    println!("cargo:rerun-if-env-changed=SHEET_ARCHIVE");
     let host =
         PathBuf::from(env::var_os("CARGO_MANIFEST_DIR").expect("cargo sets CARGO_MANIFEST_DIR"));
+    println!("cargo:rerun-if-changed=build.rs");
+    println!("cargo:rerun-if-changed=../include");
+    println!("cargo:rerun-if-env-changed=SHEET_ARCHIVE");
     let out = PathBuf::from(env::var_os("OUT_DIR").expect("cargo sets OUT_DIR"));
     let archive = match env::var_os("SHEET_ARCHIVE") {
         Some(path) => ready(&host, Path::new(&path)),
-        None => proved(host.parent().expect("host/ is in the project")),
+        None => {
+            watch_crates(&host);
+            proved(host.parent().expect("host/ is in the project"))
+        }
     };
     // A copy of our own, so that what is linked stays as it is while the project is proved anew.
     let linked = out.join("libsheet.a");
@@ -52,21 +53,42 @@ fn ready(host: &Path, path: &Path) -> PathBuf {
     path
 }
 
-/// The archive that `rt` proves and writes.
+/// Has cargo look at what the archive is made of. Not at the crates' folders `out`, in which `rt`
+/// keeps its work.
+fn watch_crates(host: &Path) {
+    println!("cargo:rerun-if-changed=../crates.txt");
+    println!("cargo:rerun-if-changed=../tools/archive");
+    let crates = match fs::read_dir(host.join("../crates")) {
+        Ok(crates) => crates,
+        Err(error) => stop(&format!("the folder crates cannot be read: {error}")),
+    };
+    for path in crates.flatten().map(|entry| entry.path()) {
+        for part in ["src", "specs", "proofs"].map(|part| path.join(part)) {
+            if part.is_dir() {
+                println!("cargo:rerun-if-changed={}", part.display());
+            }
+        }
+    }
+}
+
+/// The archive that `rt` proves and `tools/archive` writes.
 fn proved(root: &Path) -> PathBuf {
-    let run = Command::new("rt")
-        .args(["staticlib", "sheet"])
-        .current_dir(root)
+    // What it ends with where rt is not on the path.
+    const NO_RT: Option<i32> = Some(127);
+    let run = Command::new(root.join("tools/archive"))
+        .arg("sheet")
         .output();
     let run = match run {
         Ok(run) => run,
-        Err(error) if error.kind() == ErrorKind::NotFound => stop(
+        Err(error) => stop(&format!("tools/archive could not be run: {error}")),
+    };
+    if run.status.code() == NO_RT {
+        stop(
             "rt is not on the path. It proves the library and writes libsheet.a: put the Rattle \
              kit's bin folder on PATH, or set SHEET_ARCHIVE to the path of a libsheet.a that was \
              made elsewhere",
-        ),
-        Err(error) => stop(&format!("rt could not be run: {error}")),
-    };
+        );
+    }
     if !run.status.success() {
         eprint!(
             "{}{}",
@@ -74,7 +96,7 @@ fn proved(root: &Path) -> PathBuf {
             String::from_utf8_lossy(&run.stderr)
         );
         stop(&format!(
-            "`rt staticlib sheet` in {} ended with {}; what it printed is shown with this",
+            "`tools/archive sheet` in {} ended with {}; what it printed is shown with this",
             root.display(),
             run.status
         ));
@@ -82,7 +104,7 @@ fn proved(root: &Path) -> PathBuf {
     let archive = root.join("target/staticlib/libsheet.a");
     if !archive.is_file() {
         stop(&format!(
-            "`rt staticlib sheet` wrote no {}",
+            "`tools/archive sheet` wrote no {}",
             archive.display()
         ));
     }

@@ -12,7 +12,7 @@ class Archive:
 
     def __init__(self):
         if not pathlib.Path(ARCHIVE).exists():
-            subprocess.run(["rt", "staticlib", "sheet"], check=True, stdout=subprocess.DEVNULL)
+            subprocess.run(["tools/archive", "sheet"], check=True, stdout=subprocess.DEVNULL)
         WORK.mkdir(parents=True, exist_ok=True)
         shared = (WORK / "libsheet.so").resolve()
         subprocess.run(["gcc", "-shared", "-o", shared, "-Wl,--whole-archive", ARCHIVE, "-Wl,--no-whole-archive"], check=True)

@@ -41,7 +41,7 @@
 //!
 //! # Building
 //!
-//! `build.rs` has `rt staticlib sheet` prove and write the archive. Where the Rattle kit is not at
+//! `build.rs` has `tools/archive sheet` prove and write the archive. Where the Rattle kit is not at
 //! hand, `SHEET_ARCHIVE` names a `libsheet.a` that was made elsewhere. The archive is for x86-64.
 
 #![no_std]

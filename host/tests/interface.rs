@@ -111,9 +111,9 @@ fn header_parameter(parameter: &str) -> (String, Kind) {
     (name.to_string(), kind)
 }
 
-/// The exports of the Rattle crate. A slice is a pointer and a length.
+/// The exports of the Rattle crate `sheet_c`. A slice is a pointer and a length.
 fn rattle_functions() -> Vec<Function> {
-    let source = text("../crates/sheet/src/lib.rt");
+    let source = text("../crates/sheet_c/src/lib.rt");
     let mut rest = &source[..];
     let mut functions = Vec::new();
     while let Some((signature, behind)) = between(rest, "pub extern \"C\" fn ", "\n    ensures") {

@@ -19,23 +19,25 @@ use common::pty::Terminal;
 
 const SIGINT: c_int = 2;
 
-/// Notes that it runs, takes all of standard input, says of each crate that it is proved, and writes
-/// an archive. It waits where a file `wait` is, and fails where a file `fail` is.
+/// Notes that it runs, takes all of standard input, says at which crates it begins, of which one is
+/// proved already, keeps its work and writes an archive. It waits where a file `wait` is, and fails
+/// where a file `fail` is.
 const RT: &str = r#"#!/usr/bin/env bash
-[ "$*" = "staticlib sheet" ] && [ -z "${SHEET_PASSWORD+set}" ] || exit 9
+[ "$*" = lib ] && [ "${PWD##*/}" = sheet_c ] && [ -z "${SHEET_PASSWORD+set}" ] || exit 9
 echo run >>"$TRIES/rt"
 cat >/dev/null
-for name in laws word limits padding rc4 sensitive; do
-    echo "library $name: some words of the prover"
-    echo "rt: $name proved (3 s)" >&2
+for name in laws limits word sensitive file_params; do
+    mkdir -p ../laws/out/rlib
+    echo "rt: chose --jobs 2 for $name"
+    echo "crate $name: some words of the prover" >&2
 done
 while [ -e "$TRIES/wait" ]; do sleep 0.1; done
 if [ -e "$TRIES/fail" ]; then
-    echo "rt: binary_office NOT PROVED (exit 1, 3 s)"
+    echo "logic=not-proved"
     exit 1
 fi
-mkdir -p target/staticlib
-echo archive >target/staticlib/libsheet.a
+mkdir -p out
+echo archive >out/libsheet_c.a
 "#;
 
 /// Makes a command that prints the archive, where it is, its arguments and its standard input.
@@ -63,13 +65,19 @@ impl Clone {
     fn new() -> Clone {
         let folder = Folder::new();
         let root = folder.join("a clone");
-        for part in ["crates/laws", "include", "host/src"] {
+        for part in [
+            "crates/laws/src",
+            "crates/sheet_c",
+            "include",
+            "host/src",
+            "tools",
+        ] {
             fs::create_dir_all(root.join(part)).unwrap();
         }
         for part in ["host/build.rs", "host/Cargo.toml", "host/Cargo.lock"] {
             fs::write(root.join(part), "").unwrap();
         }
-        for part in ["sheet", "crates.txt"] {
+        for part in ["sheet", "crates.txt", "tools/archive"] {
             fs::copy(file(part), root.join(part)).unwrap();
         }
         let tools = folder.join("tools");
@@ -146,14 +154,15 @@ fn builds_once_and_says_so() {
     let lines: Vec<&str> = said.lines().collect();
     let expected = "sheet: the first use here: the command is built first; this needs rt, cargo ";
     assert!(lines[0].starts_with(expected), "{said}");
-    assert!(lines[1].starts_with("sheet: proving the library, 23 crates: 6 minutes"));
-    for (line, name) in lines[2..].iter().zip(["laws", "word", "limits", "padding"]) {
+    assert!(lines[1].starts_with("sheet: proving the library, 24 crates: 6 minutes"));
+    let begun = ["laws", "limits", "word", "sensitive", "file_params"];
+    for (line, name) in lines[2..].iter().zip(begun) {
         assert!(
             line.starts_with(&format!("sheet: proving {name}, ")),
             "{said}"
         );
         assert!(
-            line.contains(" of 23; 0:0") && line.ends_with(" left"),
+            line.contains(" of 24; 0:0") && line.ends_with(" left"),
             "{said}"
         );
     }
@@ -179,7 +188,7 @@ fn builds_once_and_says_so() {
     assert_eq!(clone.runs(), [1, 1]);
 
     // Standard input is not taken by what builds.
-    fs::write(clone.root().join("crates/laws/new"), "").unwrap();
+    fs::write(clone.root().join("crates/laws/src/new"), "").unwrap();
     let run = with_input(clone.command());
     assert_eq!(text(&run.stdout), printed);
     assert_eq!(clone.runs(), [2, 2]);
@@ -191,8 +200,9 @@ fn builds_again_where_a_source_changed() {
     clone.check(&clone.run());
     let mut runs = 1;
     for part in [
-        "crates/laws/new",
+        "crates/laws/src/new",
         "crates.txt",
+        "tools/archive",
         "include/sheet.h",
         "host/src/main.rs",
         "host/build.rs",
@@ -209,9 +219,9 @@ fn builds_again_where_a_source_changed() {
         assert_eq!(clone.check(&clone.run()), "", "{part}");
         assert_eq!(clone.runs(), [runs, runs]);
     }
-    fs::remove_file(clone.root().join("crates/laws/new")).unwrap();
+    fs::remove_file(clone.root().join("crates/laws/src/new")).unwrap();
     assert_ne!(clone.check(&clone.run()), "");
-    // The command, and the archive, which tools/install needs: rt ci removes target/.
+    // The command, and the archive, which tools/install needs.
     for part in ["host/target/release/sheet", "target/staticlib/libsheet.a"] {
         fs::remove_file(clone.root().join(part)).unwrap();
         assert_ne!(clone.check(&clone.run()), "", "{part}");
@@ -282,10 +292,10 @@ fn prints_what_failed() {
         );
         let said = text(&run.stderr);
         assert!(
-            said.contains("\nlibrary rc4: some words of the prover\n"),
+            said.contains("\ncrate word: some words of the prover\n"),
             "{said}"
         );
-        assert!(said.contains("\nrt: binary_office NOT PROVED (exit 1, 3 s)\n"));
+        assert!(said.contains("\nlogic=not-proved\n"));
         assert!(said.ends_with("printed is above\n"), "{said}");
     }
     assert_eq!(clone.runs(), [2, 0]);
@@ -339,7 +349,7 @@ fn shows_one_line_at_a_terminal_and_can_be_interrupted() {
     let slave = || terminal.slave.try_clone().unwrap();
     command.stdin(slave()).stdout(slave()).stderr(slave());
     let run = Process::start(&mut command);
-    terminal.wait_for("\rsheet: proving binary_office, 7 of 23; 0:0");
+    terminal.wait_for("\rsheet: proving file_params, 6 of 24; 0:0");
     terminal.write(b"\x03");
     let status = run.end().status;
     assert_eq!(status.signal(), Some(SIGINT));
@@ -351,7 +361,7 @@ fn shows_one_line_at_a_terminal_and_can_be_interrupted() {
         "{shown}"
     );
     let lines = shown.split(['\r', '\n']);
-    for line in lines.filter(|line| line.contains(" of 23; ")) {
+    for line in lines.filter(|line| line.contains(" of 24; ")) {
         assert_eq!(line.trim_end_matches("^C").len(), 79, "{line}");
     }
 

@@ -20,12 +20,12 @@ fn text(path: &str) -> String {
     fs::read_to_string(&path).unwrap_or_else(|error| panic!("{}: {error}", path.display()))
 }
 
-/// The crates of crates.txt.
+/// The crates of crates.txt. Behind the name of a static library stands that it is one.
 fn crates(list: &str) -> Vec<&str> {
     list.lines()
         .filter(|line| !line.starts_with('#'))
         .filter_map(|line| line.split_once(':'))
-        .map(|(name, _)| name)
+        .map(|(name, _)| name.trim_end_matches(" staticlib"))
         .collect()
 }
 
