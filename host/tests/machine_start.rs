@@ -23,7 +23,7 @@ const SIGINT: c_int = 2;
 /// proved already, keeps its work and writes an archive. It waits where a file `wait` is, and fails
 /// where a file `fail` is.
 const RT: &str = r#"#!/usr/bin/env bash
-[ "$*" = lib ] && [ "${PWD##*/}" = sheet_c ] && [ -z "${SHEET_PASSWORD+set}" ] || exit 9
+[ "$*" = "lib --cpu x86-64" ] && [ "${PWD##*/}" = sheet_c ] && [ -z "${SHEET_PASSWORD+set}" ] || exit 9
 echo run >>"$TRIES/rt"
 cat >/dev/null
 for name in laws limits word sensitive file_params; do
