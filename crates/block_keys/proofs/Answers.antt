@@ -4,15 +4,14 @@ use mathlib.Core.Path.{◌≡◌, refl, sym, ap, ◌∙◌}
 use mathlib.Core.Bool.{Bool, true, false, ◌&&◌}
 use mathlib.Core.List.{List, [], ◌∷◌, ◌++◌, append-nil}
 use Prim.Native.Nat.{ℕ, zero, suc, ◌+◌, ◌-◌, ◌≤◌, ◌<◌, min}
-use native.Mathlib.Nat.{le_refl, zero-add}
+use native.Mathlib.Nat.{le_refl}
 use native.Mathlib.Omega.{arith}
 use lib.Bits.{bit_xor}
-use lib.Dec.{eqb}
 use lib.ListN.{length, get_or, take, drop, replicate, length-append}
 use lib.Seq.{take-append-le, take_all, length-take-le}
 use Rattle.laws.specs.Choice.{pick, within}
 use Rattle.laws.specs.Offsets.{tabulate}
-use Rattle.laws.proofs.Choice.{taken, left, skip, stop, within_yes}
+use Rattle.laws.proofs.Choice.{taken, skip, stop, within_yes}
 use Rattle.laws.proofs.Offsets.{get_d_tabulate}
 use Rattle.sensitive.specs.declared.DerivedKey.{DerivedKey}
 use Rattle.sensitive.specs.Derived.{derived}
@@ -31,7 +30,7 @@ use Rattle.block_keys.specs.declared.Kind.{Kind}
 use Rattle.block_keys.specs.declared.Kind.TheVariants.{Office97, CryptoApi}
 use Rattle.block_keys.specs.declared.Schedule.{Schedule}
 use Rattle.block_keys.specs.declared.Scheduled.{Scheduled}
-use Rattle.block_keys.specs.BlockKeys.{schedule_of, key_by, block_key, agree, under, digest_by, digest_len, verified, encrypted_verifier_hash}
+use Rattle.block_keys.specs.BlockKeys.{key_by, block_key, agree, under, digest_by, digest_len, verified, encrypted_verifier_hash}
 use Rattle.block_keys.specs.Lock.{Schedules}
 
 -- a digest that is made from another, and none from none

@@ -1,9 +1,8 @@
 -- A stream in blocks: an offset within a block has that block's number and its place there, so a block that is written by its own keystream is written
 -- by the stream's definition.
 -- Assumes nothing.
-use mathlib.Core.Path.{◌≡◌, refl, sym, ap, ◌∙◌}
-use mathlib.Core.Bool.{true, false}
-use mathlib.Core.List.{List, [], ◌∷◌, ◌++◌}
+use mathlib.Core.Path.{◌≡◌, sym, ap, ◌∙◌}
+use mathlib.Core.List.{List, ◌++◌}
 use Prim.Native.Nat.{ℕ, zero, suc, ◌+◌, ◌-◌, ◌*◌, ◌/◌, ◌%◌, ◌^◌, ◌≤◌, ◌<◌, min}
 use native.Mathlib.Nat.{suc-mul, mod-lt, mul-le-mul_right, div-add-mod'}
 use native.Mathlib.Numerals.{add-one}
@@ -11,11 +10,10 @@ use native.Mathlib.Omega.{arith}
 use borrow.Author.Tests.{lt-ltb, le-ltb, ne_eqb, eq-eqb}
 use lib.Arith.{digits_div, digits_mod}
 use lib.Bits.{bit_xor}
-use lib.Dec.{eqb, ltb, lit<}
+use lib.Dec.{ltb, lit<}
 use lib.Pow.{mod-pow-add, mod-mod-pow}
 use lib.ListN.{length, get_or, take, drop}
 use Rattle.laws.specs.Choice.{pick}
-use Rattle.laws.specs.Offsets.{tabulate}
 use Rattle.laws.proofs.Choice.{taken, left, either, stop, skip}
 use Rattle.laws.proofs.Written.{Written, written_join, written_all}
 use Rattle.word.specs.Word.{le_bytes}

@@ -1,13 +1,12 @@
 -- A part of a buffer that was lent, written and came back: the buffer is written there, and elsewhere as it was.
 -- Assumes nothing.
-use mathlib.Core.Path.{◌≡◌, refl, sym, ap, ◌∙◌}
+use mathlib.Core.Path.{◌≡◌, sym, ap, ◌∙◌}
 use mathlib.Core.List.{List, ◌++◌}
-use Prim.Native.Nat.{ℕ, ◌+◌, ◌-◌, ◌≤◌, ◌<◌, min}
+use Prim.Native.Nat.{ℕ, ◌+◌, ◌-◌, ◌≤◌, ◌<◌}
 use native.Mathlib.Omega.{arith}
 use lib.ListN.{length, get_or, take, drop, length-append, length-take, length-drop, get_or-append}
 use lib.Seq.{get_or-append-add, get_or-drop, get_or-take, length-take-le}
 use Rattle.laws.specs.Offsets.{tabulate}
-use Rattle.laws.proofs.Choice.{either}
 use Rattle.laws.proofs.Offsets.{length_tabulate, get_d_tabulate}
 use Rattle.laws.proofs.Written.{Written}
 use Rattle.laws.proofs.Parts.{length_back}

@@ -1,6 +1,6 @@
 -- The lock that a structure of type 1 tells: its family, key size and the places of its fields, or the first refusal of questions 12 to 26.
 -- Assumes nothing.
-use Rattle.std.specs.Prelude.{◌≡◌, ℕ, ◌+◌, Bool, false, List, eqb, get_or}
+use Rattle.std.specs.Prelude.{◌≡◌, ℕ, ◌+◌, false, List, eqb, get_or}
 use Rattle.std.proofs.Math.Option.{Option, none, some}
 use Rattle.std.specs.Int.Bits.{bit_and}
 use Rattle.laws.specs.Choice.{pick}

@@ -1,18 +1,17 @@
 -- The XOR password's bytes, its key and its array, from what the functions answer. A password of 1 to 15 characters up to U+00FF has bytes and a key, any other has neither.
 -- Assumes nothing.
-use mathlib.Core.Path.{◌≡◌, refl, sym, ap, ◌∙◌}
+use mathlib.Core.Path.{◌≡◌, refl, ◌∙◌}
 use mathlib.Core.Bool.{Bool, true, false, ◌&&◌}
-use mathlib.Core.List.{List, [], ◌++◌}
+use mathlib.Core.List.{List, []}
 use mathlib.Core.Option.{Option, none, some}
 use Prim.Native.Nat.{ℕ, ◌-◌, ◌≤◌}
 use native.Mathlib.Nat.{le_refl}
 use native.Mathlib.Omega.{arith}
-use lib.Dec.{eqb, leb}
+use lib.Dec.{eqb}
 use lib.ListN.{length, take, replicate, length-append}
 use lib.Seq.{take-append-le, take_all}
 use Rattle.laws.specs.Choice.{pick, within}
 use Rattle.laws.proofs.Choice.{taken, left}
-use Rattle.sensitive.specs.declared.AnsiPassword.{AnsiPassword}
 use Rattle.sensitive.specs.Utf8.{points}
 use Rattle.sensitive.specs.Ansi.{ansi, ansi_of, narrow}
 use Rattle.xor_obfuscation.specs.declared.XorKey.TheVariants.{Key, NoKey}

@@ -1,7 +1,7 @@
 -- Open: document 01 ("Open: the plain stream", "The three locks"), with MS-XLS 2.2.10 (which bytes are enciphered), 2.4.117 (FilePass) and
 -- MS-OFFCRYPTO 2.3.5 to 2.3.7 (the locks). The questions are `file_params`' table.
 -- Assumes nothing.
-use Rattle.std.specs.Prelude.{◌≡◌, ℕ, ◌+◌, ◌-◌, ◌^◌, Bool, true, false, ◌&&◌, ◌||◌, List, [], ◌∷◌, ◌++◌, eqb, leb, ltb, length, drop, replicate}
+use Rattle.std.specs.Prelude.{◌≡◌, ℕ, ◌+◌, ◌-◌, Bool, false, ◌&&◌, ◌||◌, List, [], ◌∷◌, ◌++◌, eqb, leb, ltb, length, drop, replicate}
 use Rattle.std.proofs.Math.Option.{Option, none, some}
 use Rattle.std.specs.Int.Bits.{bit_xor}
 use Rattle.laws.specs.Choice.{pick}

@@ -28,7 +28,7 @@ use Rattle.binary_office.proofs.Headers.{le16_value, le32_value, le16_first, le3
 use Rattle.binary_office.proofs.Locks.{bits_zero, bits_stated, part_cut, look_found}
 use Rattle.binary_office.proofs.KeySizes.{facts_are, no_size}
 use Rattle.binary_office.proofs.Bodies.{impossible}
-use Rattle.file_params.specs.Questions.{asked, only, book, lock, version, crypto_api, of_stream, filepass, body_of, filepass_body, type_of, structure_of, major_of, minor_of, is_office97, header_size, verifier_at, key_size}
+use Rattle.file_params.specs.Questions.{asked, book, lock, crypto_api, of_stream, filepass, body_of, filepass_body, type_of, structure_of, major_of, minor_of, is_office97, header_size, verifier_at, key_size}
 use Rattle.file_params.proofs.Laws.{none_of_both, first_yes}
 use Rattle.rc4_cryptoapi.specs.Parse.{key_bits}
 use Rattle.block_keys.specs.declared.Rc4Lock.{Rc4Lock}

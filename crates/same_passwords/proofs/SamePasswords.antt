@@ -16,7 +16,6 @@ use Rattle.laws.specs.Choice.{pick}
 use Rattle.laws.proofs.Choice.{either}
 use Rattle.binary_office.specs.declared.Finding.TheVariants.{Filepass, Unreadable}
 use Rattle.binary_office.specs.Walk.{BiffRecord, walk}
-use Rattle.binary_office.specs.Look.{found}
 use Rattle.binary_office.specs.SameLock.{capped_body, same_lock}
 use Rattle.binary_office.proofs.Locks.{part_cut}
 use Rattle.binary_office.proofs.Bodies.{impossible}

@@ -2,7 +2,7 @@
 -- Assumes nothing.
 use mathlib.Core.Path.{◌≡◌, refl, sym, ap, ◌∙◌}
 use mathlib.Core.Bool.{Bool, true, false, ◌&&◌}
-use mathlib.Core.List.{List, [], ◌∷◌, ◌++◌}
+use mathlib.Core.List.{List, [], ◌∷◌}
 use mathlib.Core.Option.{Option, none, some}
 use Prim.Native.Nat.{ℕ, zero, suc, ◌+◌, ◌%◌, ◌≤◌, ◌<◌}
 use native.Mathlib.Omega.{arith}
@@ -14,17 +14,16 @@ use Rattle.laws.specs.Choice.{pick, within}
 use Rattle.laws.proofs.Choice.{taken, left, and_left, and_right, within_from, within_to}
 use Rattle.sensitive.specs.Utf8.{points}
 use Rattle.sensitive.specs.Ansi.{ansi, narrow}
-use Rattle.xor_obfuscation.specs.declared.Way.TheVariants.{Decrypt, Encrypt}
-use Rattle.xor_obfuscation.specs.Xor.{password_verifier, xor_key, xor_array}
-use Rattle.xor_obfuscation.proofs.Inverse.{key_fits, verifier_fits, array_fits}
+use Rattle.xor_obfuscation.specs.declared.Way.TheVariants.{Decrypt}
+use Rattle.xor_obfuscation.specs.Xor.{password_verifier, xor_key}
+use Rattle.xor_obfuscation.proofs.Inverse.{key_fits, verifier_fits}
 use Rattle.binary_office.specs.Walk.{BiffRecord}
-use Rattle.file_params.specs.Questions.{Question, ask, asked, only, lock, rc4, encryption_type, le16, type_of, structure_of, is_some}
+use Rattle.file_params.specs.Questions.{asked, only, lock, rc4, encryption_type, le16, type_of, structure_of, is_some}
 use Rattle.file_params.proofs.Laws.{past, asked_on, only_yes, first_yes, rest_yes}
 use Rattle.block_keys.specs.declared.Kind.{Kind}
 use Rattle.block_keys.specs.declared.Kind.TheVariants as kind
-use Rattle.block_keys.specs.declared.Schedule.{Schedule}
-use Rattle.block_keys.specs.BlockKeys.{schedule_of, block_key, keystream_at, started_blocks, digest_len, verified, encrypted_verifier, encrypted_verifier_hash}
-use Rattle.block_keys.specs.Lock.{lock_of, part, salt_of}
+use Rattle.block_keys.specs.BlockKeys.{schedule_of, started_blocks, encrypted_verifier, encrypted_verifier_hash}
+use Rattle.block_keys.specs.Lock.{lock_of, part}
 use Rattle.block_keys.proofs.Encrypted.{verified_encrypted}
 use Rattle.survey.specs.Survey.{block_keys}
 use Rattle.excel97.specs.declared.Lock.{Lock}

@@ -2,32 +2,22 @@
 -- loops wrote it.
 -- Assumes nothing.
 use mathlib.Core.Path.{◌≡◌, refl, sym, ap, subst, ◌∙◌}
-use mathlib.Core.Bool.{Bool, true, false}
-use mathlib.Core.List.{List, [], ◌∷◌, ◌++◌, append-nil}
-use mathlib.Core.Option.{Option, none, some}
-use Prim.Native.Nat.{ℕ, ◌+◌, ◌-◌, ◌≤◌, ◌<◌}
+use mathlib.Core.List.{List, ◌++◌, append-nil}
+use Prim.Native.Nat.{ℕ, ◌+◌, ◌-◌, ◌≤◌}
 use native.Mathlib.Omega.{arith}
-use borrow.Author.Tests.{lt-ltb, le-ltb}
-use lib.ListN.{length, get_or, drop, replicate}
+use lib.ListN.{length, replicate}
 use lib.Seq.{take_at}
-use Rattle.laws.specs.Choice.{pick}
-use Rattle.laws.specs.Offsets.{map_at}
-use Rattle.laws.proofs.Choice.{taken, left, either}
 use Rattle.laws.proofs.Written.{Written}
-use Rattle.binary_office.specs.Walk.{BiffRecord, walk}
+use Rattle.binary_office.specs.Walk.{BiffRecord}
 use Rattle.block_keys.specs.declared.Kind.{Kind}
 use Rattle.block_keys.specs.declared.Kind.TheVariants as kind
 use Rattle.block_keys.specs.declared.Schedule.{Schedule}
 use Rattle.block_keys.specs.BlockKeys.{encrypted_verifier, encrypted_verifier_hash, digest_len}
 use Rattle.block_keys.proofs.Encrypted.{length_encrypted_hash}
-use Rattle.excel97.specs.Open.{record_at, in_record, blanked}
 use Rattle.excel97.specs.Steps.{through_at, rc4_at}
-use Rattle.excel97.proofs.Blanked.{never, by_place_lem, blank_before, blank_id, blank_length, blank_body, blank_behind}
-use Rattle.sealing.specs.declared.Choice.{Choice}
-use Rattle.sealing.specs.Filepass.{two, header_len, office97_body, crypto_api_body, filepass_for}
-use Rattle.sealing.specs.Seal.{zero_of, sealed_byte, sealed_at, sealed}
-use Rattle.sealing.specs.Steps.{Put, office97_fields, crypto_api_fields, at_place, Locks}
-use Rattle.sealing.proofs.Sealed.{length_sealed, sealed_at_lem, new_byte, old_byte, inside, body_byte}
+use Rattle.excel97.proofs.Blanked.{never, by_place_lem, blank_id, blank_body}
+use Rattle.sealing.specs.Filepass.{two, header_len, office97_body, crypto_api_body}
+use Rattle.sealing.specs.Steps.{Put, office97_fields, crypto_api_fields, Locks}
 
 -- the loops, then the id, then the body
 pub locks : (plain : List ℕ) (at len : ℕ) (f : BiffRecord → ℕ → ℕ → ℕ) (body d d₁ d₂ d₃ : List ℕ) → at + 4 + len ≤ length plain → length body ≡ len

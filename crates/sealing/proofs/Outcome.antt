@@ -1,7 +1,7 @@
 -- How the checks, asked one group after the other, settle the outcome: a refusal of a group is the first of all questions', and past question 5 the scratch is wiped.
 -- Assumes nothing.
 use mathlib.Core.Path.{◌≡◌, refl, sym, ap, ◌∙◌}
-use mathlib.Core.Bool.{Bool, true, false}
+use mathlib.Core.Bool.{true, false}
 use mathlib.Core.List.{List, [], ◌∷◌, ◌++◌, append_assoc}
 use mathlib.Core.Option.{Option, none, some}
 use Prim.Native.Nat.{ℕ, ◌≤◌}
@@ -12,8 +12,7 @@ use lib.ListN.{length, drop, replicate}
 use Rattle.laws.specs.Choice.{pick}
 use Rattle.laws.proofs.Choice.{taken, left, stop}
 use Rattle.sensitive.specs.Utf8.{well_formed}
-use Rattle.binary_office.specs.declared.WalkEnd.{WalkEnd}
-use Rattle.binary_office.specs.Walk.{BiffRecord, Walk, walk}
+use Rattle.binary_office.specs.Walk.{BiffRecord, walk}
 use Rattle.file_params.specs.declared.Refusal.{Refusal}
 use Rattle.file_params.specs.declared.Refusal.TheVariants.{ZeroRecordMissing, ZeroRecordLength, XorPasswordUnfit}
 use Rattle.file_params.specs.Refusal.{number}
@@ -25,7 +24,7 @@ use Rattle.survey.specs.declared.Checked.TheVariants as checked
 use Rattle.survey.specs.declared.Counts.{Counts}
 use Rattle.survey.specs.declared.Found.TheVariants as found
 use Rattle.survey.specs.Checked.{checked_of}
-use Rattle.survey.specs.Survey.{len_of, enciphered_bytes, counts_of}
+use Rattle.survey.specs.Survey.{len_of, counts_of}
 use Rattle.survey.specs.Steps.{found_of}
 use Rattle.survey.proofs.Groups.{checked_refused, checked_fine}
 use Rattle.excel97.specs.Open.{wiped}
@@ -35,7 +34,7 @@ use Rattle.sealing.specs.declared.Answer.{Answer}
 use Rattle.sealing.specs.declared.Answer.TheVariants.{Refused}
 use Rattle.sealing.specs.Seal.{zero_of, admitted, fits, zeroed, takes, of_plain, seal_questions, outcome_by, outcome, Seals}
 use Rattle.sealing.specs.Steps.{at_place, Ready, later_refusal, Settles}
-use Rattle.sealing.proofs.ZeroRecords.{nothing_is, zero_located}
+use Rattle.sealing.proofs.ZeroRecords.{zero_located}
 
 -- the zero record that was found
 module _ (plain : List ℕ) where

@@ -9,16 +9,15 @@ use Prim.Native.Nat.{ℕ, ◌+◌, ◌≤◌, ◌<◌}
 use native.Mathlib.Omega.{arith}
 use borrow.Author.Tests.{leb-true, ltb-true}
 use lib.Dec.{leb, ltb}
-use lib.ListN.{length, get_or}
 use Rattle.laws.specs.Choice.{pick}
-use Rattle.laws.proofs.Choice.{taken, left, either, same_or}
+use Rattle.laws.proofs.Choice.{either, same_or}
 use Rattle.binary_office.specs.declared.Step.TheVariants as step
 use Rattle.binary_office.specs.Walk.{BiffRecord, step_at, walk_at, walk, clear_len}
 use Rattle.binary_office.proofs.Along.{records_on, records_end_lem, records_fault, along}
 use Rattle.binary_office.proofs.Renamed.{renamed}
 use Rattle.excel97.specs.Open.{record_at, covers, in_record, blanked}
-use Rattle.excel97.proofs.Blanked.{never, blank_id, blank_body}
-use Rattle.excel97.proofs.Records.{Reached, reached_none, reached_on, record_here}
+use Rattle.excel97.proofs.Blanked.{never, blank_body}
+use Rattle.excel97.proofs.Records.{Reached, reached_none, reached_on}
 use Rattle.excel97.proofs.Through.{own_byte, other_byte}
 use Rattle.excel97.proofs.OneRecord.{with_id, id_kept}
 use Rattle.sealing.proofs.ZeroRecords.{nothing_is}

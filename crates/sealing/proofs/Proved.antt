@@ -1,15 +1,14 @@
 -- The two round trips over any runs: what one operation wrote passes the other's questions, and gives back the report and the stream.
 -- Assumes nothing.
 use mathlib.Core.Path.{◌≡◌, refl, sym, ap, subst, ◌∙◌}
-use mathlib.Core.Bool.{Bool, true, false, not}
+use mathlib.Core.Bool.{Bool, true, not}
 use mathlib.Core.List.{List, [], ◌∷◌, ◌++◌}
 use mathlib.Core.Option.{Option, none, some}
-use Prim.Native.Nat.{ℕ, ◌+◌, ◌≤◌, ◌<◌}
+use Prim.Native.Nat.{ℕ, ◌≤◌}
 use native.Mathlib.Omega.{arith}
-use lib.ListN.{length, get_or, take, drop, length-take, length-drop}
+use lib.ListN.{length, take, drop, length-take, length-drop}
 use lib.Seq.{take_at, drop_at}
-use Rattle.laws.specs.Choice.{pick}
-use Rattle.laws.proofs.Choice.{taken, left}
+use Rattle.laws.proofs.Choice.{taken}
 use Rattle.sensitive.specs.Ansi.{ansi}
 use Rattle.binary_office.specs.declared.WalkEnd.TheVariants as end
 use Rattle.binary_office.specs.Walk.{BiffRecord, walk}

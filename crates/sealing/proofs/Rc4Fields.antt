@@ -2,7 +2,7 @@
 -- those that were written.
 -- Assumes nothing.
 use mathlib.Core.Path.{◌≡◌, refl, sym, ap, subst, ◌∙◌}
-use mathlib.Core.Bool.{Bool, true, false, ◌&&◌, ◌||◌}
+use mathlib.Core.Bool.{true, false, ◌&&◌}
 use mathlib.Core.List.{List, [], ◌∷◌, ◌++◌, append_assoc, append-nil}
 use mathlib.Core.Option.{none}
 use Prim.Native.Nat.{ℕ, ◌+◌, ◌-◌, ◌%◌, ◌≤◌, ◌<◌}
@@ -16,7 +16,7 @@ use Rattle.laws.proofs.Choice.{taken, left, within_yes, or_right}
 use Rattle.word.specs.Word.{le32}
 use Rattle.word.proofs.Bytes.{word_of_le}
 use Rattle.binary_office.specs.Walk.{zero_bytes}
-use Rattle.file_params.specs.Questions.{Question, asked, only, version, office97, crypto_api, rc4, structure_of, major_of, minor_of, is_office97, is_crypto_api, header_size, header_flags, alg_id, alg_id_hash, key_size, verifier_at, salt_size, verifier_hash_size}
+use Rattle.file_params.specs.Questions.{Question, asked, only, version, office97, crypto_api, rc4, structure_of, major_of, is_office97, is_crypto_api, header_size, header_flags, alg_id, alg_id_hash, key_size, verifier_at, salt_size, verifier_hash_size}
 use Rattle.file_params.proofs.Laws.{past, asked_on, only_yes, only_no}
 use Rattle.block_keys.specs.declared.Kind.{Kind}
 use Rattle.block_keys.specs.declared.Kind.TheVariants as kind
@@ -25,8 +25,8 @@ use Rattle.block_keys.specs.declared.Schedule.{Schedule}
 use Rattle.block_keys.specs.BlockKeys.{encrypted_verifier, encrypted_verifier_hash, digest_len}
 use Rattle.block_keys.specs.Lock.{office97_lock, crypto_api_lock, lock_of, part, salt_of}
 use Rattle.block_keys.proofs.Encrypted.{length_encrypted, length_encrypted_hash}
-use Rattle.sealing.specs.Filepass.{two, four, office97_body, header_fields, encryption_verifier, header_len, crypto_api_body}
-use Rattle.sealing.proofs.Reading.{behind, le32_behind, part_at, byte_at, two_read}
+use Rattle.sealing.specs.Filepass.{two, four, office97_body, header_fields, header_len, crypto_api_body}
+use Rattle.sealing.proofs.Reading.{le32_behind, part_at, byte_at, two_read}
 
 -- what a structure tells, once its questions are passed
 pub record Tells (structure : List ℕ) (k : Kind) (bits : ℕ) (salt verifier hash : List ℕ) : Type 0 where

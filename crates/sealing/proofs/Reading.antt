@@ -1,6 +1,6 @@
 -- Fields read from a list that was made by joining them: what stands behind a part of known length is read from its own start.
 -- Assumes nothing.
-use mathlib.Core.Path.{◌≡◌, refl, sym, ap, ◌∙◌}
+use mathlib.Core.Path.{◌≡◌, sym, ap, ◌∙◌}
 use mathlib.Core.List.{List, ◌++◌}
 use Prim.Native.Nat.{ℕ, ◌+◌, ◌*◌, ◌/◌, ◌%◌, ◌^◌, ◌<◌}
 use native.Mathlib.Nat.{add_assoc}
@@ -8,7 +8,7 @@ use native.Mathlib.Omega.{arith}
 use lib.ListN.{length, get_or, get_or-append}
 use lib.Seq.{ext_get_or, get_or-append-add}
 use Rattle.laws.proofs.Offsets.{length_tabulate, get_d_tabulate}
-use Rattle.word.specs.Word.{le32, from_le, le_bytes}
+use Rattle.word.specs.Word.{le32, le_bytes}
 use Rattle.word.proofs.Bytes.{word_of_le}
 use Rattle.block_keys.specs.Lock.{part}
 

@@ -2,14 +2,13 @@
 -- padding both have the same byte; anywhere else the byte goes through a function and its inverse.
 -- Assumes nothing.
 use mathlib.Core.Path.{◌≡◌, refl, sym, ap, ◌∙◌}
-use mathlib.Core.Bool.{Bool, true, false}
-use mathlib.Core.List.{List, [], ◌∷◌, ◌++◌}
+use mathlib.Core.Bool.{true, false}
+use mathlib.Core.List.{List}
 use mathlib.Core.Option.{Option, none, some}
 use Prim.Native.Nat.{ℕ, ◌+◌, ◌-◌, ◌≤◌, ◌<◌}
 use native.Mathlib.Nat.{mod-eq_of_lt, div-eq_of_lt}
 use native.Mathlib.Omega.{arith}
 use borrow.Author.Tests.{lt-ltb, le-ltb}
-use lib.Dec.{ltb}
 use lib.ListN.{length, get_or, take, drop, length-take, length-drop, get_or-eq_default}
 use lib.Seq.{ext_get_or, get_or-take, get_or-drop}
 use Rattle.laws.specs.Choice.{pick}
@@ -22,19 +21,19 @@ use Rattle.binary_office.proofs.Renamed.{renamed}
 use Rattle.binary_office.proofs.Walks.{record_there, record_within}
 use Rattle.file_params.specs.Questions.{starts_bof, filepass, other_id, filepass_body, body_of, le16}
 use Rattle.excel97.specs.Open.{plain_byte, record_at, in_record, blanked, plain_at, plain}
-use Rattle.excel97.proofs.Blanked.{never, by_place_lem, blank_before, blank_id, blank_length, blank_body, blank_behind}
+use Rattle.excel97.proofs.Blanked.{by_place_lem, blank_before, blank_id, blank_length, blank_body, blank_behind}
 use Rattle.excel97.proofs.PlainBytes.{length_plain, plain_at_lem, behind_byte}
 use Rattle.excel97.proofs.Records.{Reached, reached_none, record_here}
 use Rattle.excel97.proofs.Through.{own_byte}
 use Rattle.excel97.proofs.OneRecord.{with_id, walk_with_id}
 use Rattle.sealing.specs.declared.Choice.{Choice}
 use Rattle.sealing.specs.Filepass.{two, filepass_for}
-use Rattle.sealing.specs.Seal.{zero_record, zero_of, sealed_byte, filepass_byte, sealed_at, sealed}
+use Rattle.sealing.specs.Seal.{zero_record, zero_of, sealed_byte, sealed_at, sealed}
 use Rattle.sealing.specs.Theorems.{Bytes}
 use Rattle.sealing.proofs.ZeroRecords.{FirstFilepass, first_located, unfiled}
-use Rattle.sealing.proofs.Places.{SamePlace, same_place, undone_there, undone_back}
-use Rattle.sealing.proofs.Bodies.{ReadBack, opened_byte}
-use Rattle.sealing.proofs.Sealed.{starts_kept, length_sealed, sealed_at_lem, located, reached, inside, new_byte, old_byte, walk_sealed, first_filepass, body_is}
+use Rattle.sealing.proofs.Places.{same_place, undone_back}
+use Rattle.sealing.proofs.Bodies.{ReadBack}
+use Rattle.sealing.proofs.Sealed.{starts_kept, length_sealed, sealed_at_lem, located, reached, new_byte, old_byte, walk_sealed, first_filepass, body_is}
 use Rattle.sealing.proofs.Undone.{opened_sealed, sealed_opened, zero_at, all_zero_lem, low_byte}
 
 -- the id and the body of a record, or neither

@@ -1,26 +1,23 @@
 -- What a run of `seal` tells that sealed, and that was refused; and that what one run was lent is enough for another with the same password.
 -- Assumes nothing.
 use mathlib.Core.Path.{◌≡◌, refl, sym, ap, ◌∙◌}
-use mathlib.Core.Bool.{Bool, true, false}
+use mathlib.Core.Bool.{true}
 use mathlib.Core.List.{List, [], ◌∷◌, ◌++◌}
 use mathlib.Core.Option.{Option, none, some}
 use Prim.Native.Nat.{ℕ, ◌≤◌}
 use borrow.Author.Tests.{le-leb, leb-true}
-use lib.Dec.{leb}
 use lib.ListN.{length, drop}
-use Rattle.laws.specs.Choice.{pick}
 use Rattle.sensitive.specs.Utf8.{well_formed}
 use Rattle.binary_office.specs.Walk.{BiffRecord}
 use Rattle.file_params.specs.declared.Refusal.{Refusal}
 use Rattle.file_params.specs.declared.Refusal.TheVariants.{XorPasswordUnfit}
-use Rattle.file_params.specs.Questions.{Question, scratch_need, ask, asked, lent, is_some}
+use Rattle.file_params.specs.Questions.{scratch_need, ask, asked, lent, is_some}
 use Rattle.file_params.proofs.Laws.{past, none_of_both, first_yes, rest_yes}
 use Rattle.excel97.specs.declared.Report.{Report}
 use Rattle.excel97.specs.Open.{report}
 use Rattle.excel97.proofs.Blanked.{never}
 use Rattle.sealing.specs.declared.Choice.{Choice}
-use Rattle.sealing.specs.declared.Answer.{Answer}
-use Rattle.sealing.specs.declared.Answer.TheVariants.{Sealed, Refused}
+use Rattle.sealing.specs.declared.Answer.TheVariants.{Sealed}
 use Rattle.sealing.specs.Seal.{zero_of, takes, of_plain, seal_questions, sealed, outcome_by, outcome, Seals}
 use Rattle.sealing.proofs.Settled.{Passed, passed_all}
 

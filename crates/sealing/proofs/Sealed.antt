@@ -2,14 +2,14 @@
 -- what Open reports of it.
 -- Assumes nothing.
 use mathlib.Core.Path.{◌≡◌, refl, sym, ap, ◌∙◌}
-use mathlib.Core.Bool.{Bool, true, false, not}
+use mathlib.Core.Bool.{true, false}
 use mathlib.Core.List.{List, [], ◌∷◌, ◌++◌}
 use mathlib.Core.Option.{Option, none, some}
 use Prim.Native.Nat.{ℕ, suc, ◌+◌, ◌-◌, ◌≤◌, ◌<◌}
 use native.Mathlib.Nat.{zero-add, add-zero}
 use native.Mathlib.Omega.{arith}
 use borrow.Author.Tests.{lt-ltb, le-ltb, eqb-true}
-use lib.Dec.{eqb, ltb}
+use lib.Dec.{eqb}
 use lib.ListN.{length, get_or, take, drop, get_or-eq_default, length-take, length-drop}
 use lib.Seq.{ext_get_or, get_or-take, get_or-drop}
 use Rattle.laws.specs.Choice.{pick}
@@ -18,16 +18,15 @@ use Rattle.laws.proofs.Offsets.{length_map_at, get_d_map_at}
 use Rattle.binary_office.specs.declared.Step.{Step}
 use Rattle.binary_office.specs.declared.Step.TheVariants as step
 use Rattle.binary_office.specs.declared.WalkEnd.TheVariants as end
-use Rattle.binary_office.specs.Walk.{BiffRecord, Walk, step_at, walk_at, walk, records_end}
+use Rattle.binary_office.specs.Walk.{BiffRecord, step_at, walk, records_end}
 use Rattle.binary_office.proofs.Along.{records_on, records_end_lem, records_fault, end_from_lem}
 use Rattle.binary_office.proofs.Renamed.{renamed}
 use Rattle.binary_office.proofs.Walks.{record_within}
-use Rattle.file_params.specs.Questions.{asked, in_order, locked, book, lock, of_stream, starts_bof, filepass, other_id, filepass_body, body_of, le16, type_of, structure_of}
+use Rattle.file_params.specs.Questions.{asked, in_order, locked, book, lock, of_stream, starts_bof, filepass, other_id, filepass_body, body_of, le16}
 use Rattle.file_params.proofs.Laws.{past, asked_on}
-use Rattle.survey.specs.Survey.{len_of, enciphered_bytes, block_keys}
+use Rattle.survey.specs.Survey.{enciphered_bytes}
 use Rattle.survey.proofs.First.{starts}
-use Rattle.excel97.specs.declared.Report.{Report}
-use Rattle.excel97.specs.Open.{record_at, in_record, blanked, xor_report, rc4_report, report}
+use Rattle.excel97.specs.Open.{record_at, in_record, blanked, report}
 use Rattle.excel97.proofs.Blanked.{never, blank_id, blank_body, blank_behind}
 use Rattle.excel97.proofs.Records.{Reached, reached_none, reached_on, record_here}
 use Rattle.excel97.proofs.SameBounds.{behind_records}
@@ -35,7 +34,7 @@ use Rattle.excel97.proofs.Through.{own_byte}
 use Rattle.excel97.proofs.OneRecord.{with_id, id_kept, walk_with_id}
 use Rattle.sealing.specs.declared.Choice.{Choice}
 use Rattle.sealing.specs.Filepass.{two, filepass_for}
-use Rattle.sealing.specs.Seal.{zero_record, zero_of, sealed_byte, filepass_byte, sealed_at, sealed}
+use Rattle.sealing.specs.Seal.{zero_of, sealed_byte, filepass_byte, sealed_at, sealed}
 use Rattle.sealing.proofs.ZeroRecords.{ZeroAt, zero_located, Refiled, refiled}
 use Rattle.sealing.proofs.Bodies.{ReadBack, report_for}
 

@@ -5,28 +5,22 @@ use mathlib.Core.Bool.{Bool, true, false}
 use mathlib.Core.List.{List, [], ◌∷◌, ◌++◌}
 use mathlib.Core.Option.{Option, none, some}
 use Prim.Native.Nat.{ℕ, ◌+◌, ◌-◌, ◌≤◌, ◌<◌}
-use native.Mathlib.Nat.{le_of_eq}
 use native.Mathlib.Omega.{arith}
-use borrow.Author.Tests.{eqb-true, le-leb, lt-leb, leb-true, lt-ltb, le-ltb}
-use lib.Dec.{leb}
-use lib.ListN.{length, get_or, drop, replicate}
-use Rattle.laws.specs.Choice.{pick, within}
-use Rattle.laws.proofs.Choice.{taken, left, stop, within_from}
+use borrow.Author.Tests.{eqb-true, lt-ltb, le-ltb}
+use lib.ListN.{length, get_or, drop}
+use Rattle.laws.specs.Choice.{pick}
+use Rattle.laws.proofs.Choice.{taken, left, within_from}
 use Rattle.laws.proofs.Offsets.{listed}
-use Rattle.laws.proofs.Written.{Written, written_all}
-use Rattle.sensitive.specs.Utf8.{well_formed}
+use Rattle.laws.proofs.Written.{written_all}
 use Rattle.sensitive.specs.Ansi.{ansi}
 use Rattle.xor_obfuscation.specs.declared.Way.TheVariants.{Encrypt}
 use Rattle.binary_office.specs.declared.WalkEnd.{WalkEnd}
 use Rattle.binary_office.specs.declared.WalkEnd.TheVariants as end
 use Rattle.binary_office.specs.Walk.{BiffRecord, walk}
-use Rattle.file_params.specs.declared.Refusal.{Refusal}
 use Rattle.file_params.specs.declared.Refusal.TheVariants.{XorPasswordUnfit}
-use Rattle.file_params.specs.Refusal.{number}
-use Rattle.file_params.specs.Questions.{Question, scratch_need, ask, asked, lent, in_order, clean, starts_bof, is_some}
-use Rattle.file_params.proofs.Laws.{asked_on, asked_stop, none_of_both, first_yes, rest_yes, from_either}
-use Rattle.file_params.proofs.Tables.{given_passes}
-use Rattle.survey.specs.Survey.{len_of, enciphered_bytes}
+use Rattle.file_params.specs.Questions.{ask, asked, in_order, clean, starts_bof, is_some}
+use Rattle.file_params.proofs.Laws.{asked_on, none_of_both, first_yes, rest_yes}
+use Rattle.survey.specs.Survey.{len_of}
 use Rattle.block_keys.specs.declared.Kind.TheVariants as kind
 use Rattle.block_keys.specs.declared.Schedule.{Schedule}
 use Rattle.block_keys.specs.BlockKeys.{schedule_of}
@@ -34,19 +28,19 @@ use Rattle.excel97.specs.declared.Lock.{Lock}
 use Rattle.excel97.specs.declared.Lock.TheVariants as lock
 use Rattle.excel97.specs.declared.Report.{Report}
 use Rattle.excel97.specs.declared.XorLock.{XorLock}
-use Rattle.excel97.specs.Open.{keystream, array_of, xor_byte, report, wiped, blanked}
+use Rattle.excel97.specs.Open.{keystream, array_of, xor_byte, blanked}
 use Rattle.excel97.specs.Steps.{xor_lock_of, through_at, rc4_at}
 use Rattle.excel97.proofs.Settled.{same_size_lem}
-use Rattle.excel97.proofs.Blanked.{never, by_place_lem, blank_before, blank_id, blank_length, blank_body, blank_behind}
+use Rattle.excel97.proofs.Blanked.{by_place_lem, blank_before, blank_id, blank_length, blank_body, blank_behind}
 use Rattle.sealing.specs.declared.Choice.{Choice}
 use Rattle.sealing.specs.declared.Choice.TheVariants.{Xor, Office97, CryptoApi}
 use Rattle.sealing.specs.declared.Answer.{Answer}
 use Rattle.sealing.specs.declared.Answer.TheVariants.{Sealed, Refused}
 use Rattle.sealing.specs.Filepass.{two, characters, xor_body, office97_body, crypto_api_body, filepass_for}
-use Rattle.sealing.specs.Seal.{zero_of, admitted, fits, zeroed, takes, of_plain, seal_questions, sealed_byte, filepass_byte, sealed_at, sealed, outcome_by, outcome, Seals}
-use Rattle.sealing.specs.Steps.{at_place, xor_fields, Room, Locks, LocksRc4, Ready, later_refusal, Settles}
-use Rattle.sealing.proofs.ZeroRecords.{nothing_is, refiled}
-use Rattle.sealing.proofs.Bodies.{ReadBack, report_for, read_back}
+use Rattle.sealing.specs.Seal.{zero_of, admitted, fits, zeroed, takes, of_plain, sealed_byte, filepass_byte, sealed}
+use Rattle.sealing.specs.Steps.{xor_fields, Room, Locks, LocksRc4, Ready, later_refusal, Settles}
+use Rattle.sealing.proofs.ZeroRecords.{refiled}
+use Rattle.sealing.proofs.Bodies.{report_for, read_back}
 use Rattle.sealing.proofs.Sealed.{length_sealed, sealed_at_lem, new_byte, old_byte, inside, reported}
 
 -- what the questions of a plain stream and a choice tell, once they are passed

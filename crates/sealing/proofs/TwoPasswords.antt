@@ -5,14 +5,13 @@ use mathlib.Core.Path.{◌≡◌, refl, sym, ap, ◌∙◌}
 use mathlib.Core.Bool.{Bool, true, false, not}
 use mathlib.Core.List.{List, [], ◌∷◌, ◌++◌, append_assoc}
 use mathlib.Core.Option.{Option, none, some}
-use Prim.Native.Nat.{ℕ, ◌+◌, ◌-◌, ◌≤◌, ◌<◌}
+use Prim.Native.Nat.{ℕ, ◌-◌, ◌≤◌, ◌<◌}
 use native.Mathlib.Omega.{arith}
 use lib.Dec.{eqb}
 use lib.ListN.{length, get_or, drop, get_or-append}
 use Rattle.laws.specs.Choice.{pick}
-use Rattle.laws.proofs.Choice.{taken, left}
 use Rattle.sensitive.specs.Utf8.{well_formed}
-use Rattle.binary_office.specs.Walk.{BiffRecord, walk, records_end, clear_len}
+use Rattle.binary_office.specs.Walk.{BiffRecord, walk}
 use Rattle.file_params.specs.declared.Refusal.{Refusal}
 use Rattle.file_params.specs.declared.Refusal.TheVariants.{XorPasswordUnfit}
 use Rattle.file_params.specs.Refusal.{number}
@@ -21,7 +20,7 @@ use Rattle.file_params.specs.Questions.{Question, scratch_need, ask, asked, lent
 use Rattle.file_params.proofs.Tables.{given_passes}
 use Rattle.survey.specs.Survey.{len_of, enciphered_bytes}
 use Rattle.excel97.specs.declared.Report.{Report}
-use Rattle.excel97.specs.Open.{record_at, in_record, blanked, report, wiped}
+use Rattle.excel97.specs.Open.{record_at, in_record, blanked, report}
 use Rattle.excel97.proofs.Answers.{same_lent, decided_by, behind}
 use Rattle.excel97.proofs.Blanked.{never}
 use Rattle.excel97.proofs.PlainBytes.{in_stream}
@@ -31,10 +30,9 @@ use Rattle.sealing.specs.declared.Choice.{Choice}
 use Rattle.sealing.specs.declared.Choice.TheVariants.{Xor, Office97, CryptoApi}
 use Rattle.sealing.specs.declared.Answer.{Answer}
 use Rattle.sealing.specs.declared.Answer.TheVariants.{Sealed, Refused}
-use Rattle.sealing.specs.Filepass.{filepass_for}
 use Rattle.sealing.specs.Seal.{zero_of, admitted, fits, zeroed, takes, of_plain, seal_questions, sealed_byte, sealed, Outcome, outcome_by, outcome, Seals}
-use Rattle.sealing.specs.Theorems.{expected, SealNumbered, Clear, within_record, in_padding, AlikeSealed, TwoSealings, AlikeRefused}
-use Rattle.sealing.proofs.Bodies.{ReadBack, report_for, read_back}
+use Rattle.sealing.specs.Theorems.{expected, SealNumbered, Clear, within_record, in_padding, AlikeSealed, AlikeRefused}
+use Rattle.sealing.proofs.Bodies.{report_for, read_back}
 use Rattle.sealing.proofs.Sealed.{length_sealed, sealed_at_lem, old_byte, reported}
 use Rattle.sealing.proofs.Runs.{HasSealed, has_sealed}
 

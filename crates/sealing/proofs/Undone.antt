@@ -1,8 +1,8 @@
 -- Sealing a byte and opening it undo each other: exclusive-or with one keystream byte twice, and under XOR the rotation and the array back and forth. An array of an XOR
 -- password is of bytes, and so is its exclusive-or with a byte.
 -- Assumes nothing.
-use mathlib.Core.Path.{◌≡◌, refl, sym, ap, ◌∙◌}
-use mathlib.Core.Bool.{true, ◌&&◌}
+use mathlib.Core.Path.{◌≡◌, refl}
+use mathlib.Core.Bool.{true}
 use mathlib.Core.List.{List, [], ◌∷◌}
 use mathlib.Core.Option.{Option, none, some}
 use Prim.Native.Nat.{ℕ, zero, suc, ◌+◌, ◌-◌, ◌*◌, ◌<◌}
@@ -13,7 +13,6 @@ use lib.ListN.{length, get_or, replicate}
 use Rattle.laws.proofs.Choice.{and_left, and_right}
 use Rattle.laws.proofs.Xor.{xor_twice}
 use Rattle.sensitive.specs.Ansi.{ansi}
-use Rattle.xor_obfuscation.specs.declared.Way.TheVariants.{Decrypt, Encrypt}
 use Rattle.xor_obfuscation.specs.Xor.{xor_key}
 use Rattle.xor_obfuscation.proofs.Inverse.{deciphered_enciphered, enciphered_deciphered, array_fits}
 use Rattle.binary_office.specs.Walk.{BiffRecord, clear_len, all_zero}

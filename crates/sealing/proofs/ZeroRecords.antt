@@ -12,9 +12,9 @@ use borrow.Author.Tests.{eq-eqb, ne_eqb, eqb-true}
 use lib.Dec.{eqb}
 use lib.ListN.{length}
 use Rattle.laws.specs.Choice.{pick}
-use Rattle.laws.proofs.Choice.{taken, left, same_or, and_left, and_right}
+use Rattle.laws.proofs.Choice.{taken, left, same_or}
 use Rattle.binary_office.specs.declared.Step.TheVariants as step
-use Rattle.binary_office.specs.Walk.{BiffRecord, step_at, walk_at, walk, never_encrypted, all_zero, clear_len}
+use Rattle.binary_office.specs.Walk.{BiffRecord, step_at, walk_at, never_encrypted, all_zero, clear_len}
 use Rattle.binary_office.proofs.Along.{records_on, records_end_lem, records_fault, along}
 use Rattle.binary_office.proofs.Renamed.{renamed}
 use Rattle.binary_office.proofs.Walks.{record_within}

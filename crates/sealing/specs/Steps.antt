@@ -1,10 +1,9 @@
 -- What the private functions of sealing answer, in terms of its definitions. Nothing that is promised outside rests on this file.
 -- Assumes nothing.
-use Rattle.std.specs.Prelude.{◌≡◌, ℕ, ◌+◌, ◌-◌, ◌≤◌, ◌<◌, Bool, true, false, List, [], ◌∷◌, ◌++◌, length, get_or, take, drop, replicate}
+use Rattle.std.specs.Prelude.{◌≡◌, ℕ, ◌+◌, ◌-◌, ◌≤◌, ◌<◌, true, false, List, [], ◌∷◌, ◌++◌, length, get_or, take, drop, replicate}
 use Rattle.std.proofs.Math.Option.{Option, none, some}
 use Rattle.laws.proofs.Written.{Written}
 use Rattle.sensitive.specs.Utf8.{well_formed}
-use Rattle.binary_office.specs.declared.WalkEnd.TheVariants as end
 use Rattle.binary_office.specs.Walk.{BiffRecord, walk, zero_bytes}
 use Rattle.file_params.specs.declared.Refusal.{Refusal}
 use Rattle.file_params.specs.declared.Refusal.TheVariants.{XorPasswordUnfit}

@@ -15,7 +15,7 @@ use Rattle.sealing.specs.declared.Answer.TheVariants as closed
 use Rattle.sealing.specs.Seal.{outcome, Seals}
 use Rattle.sealing.proofs.Proved.{opens_again, seals_again}
 use Rattle.sheet.specs.Facts.{open_number, open_facts, as_opened, OpensInC, SealsInC}
-use Rattle.sheet.specs.Seals.{GivesBackInC, SealsAndOpensInC}
+use Rattle.sheet.specs.Seals.{SealsAndOpensInC}
 use Rattle.sheet.proofs.Numbers.{not_refused}
 
 -- an answer of 0 is a report

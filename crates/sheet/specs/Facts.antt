@@ -1,12 +1,11 @@
 -- The numbers of the C interface: what each operation answers, and the eight facts beside it; facts that are not used are 0.
 -- Assumes nothing.
-use Rattle.std.specs.Prelude.{◌≡◌, ℕ, Bool, true, false, List, [], ◌∷◌}
+use Rattle.std.specs.Prelude.{◌≡◌, ℕ, Bool, List, [], ◌∷◌}
 use Rattle.laws.specs.Choice.{pick}
 use Rattle.binary_office.specs.declared.Version.{Version}
 use Rattle.binary_office.specs.declared.Version.TheVariants.{Pair, NoVersion}
 use Rattle.binary_office.specs.declared.KeySize.{KeySize}
 use Rattle.binary_office.specs.declared.KeySize.TheVariants.{Bits, NoSize}
-use Rattle.binary_office.specs.declared.Facts.{Facts}
 use Rattle.binary_office.specs.declared.Verdict.{Verdict}
 use Rattle.binary_office.specs.declared.Verdict.TheVariants.{Yes, No, Unknown}
 use Rattle.binary_office.specs.declared.Step.{Step}
@@ -17,16 +16,13 @@ use Rattle.file_params.specs.Refusal.{number, first, second}
 use Rattle.file_params.specs.Questions.{scratch_need}
 use Rattle.excel97.specs.declared.Lock.{Lock}
 use Rattle.excel97.specs.declared.Lock.TheVariants.{Xor, Office97, CryptoApi}
-use Rattle.excel97.specs.declared.Report.{Report}
 use Rattle.excel97.specs.declared.Answer.{Answer}
 use Rattle.excel97.specs.declared.Answer.TheVariants.{Opened, Refused}
 use Rattle.excel97.specs.Open.{outcome_with}
 use Rattle.directory.specs.declared.Start.{Start}
 use Rattle.directory.specs.declared.Start.TheVariants.{At, Nothing}
-use Rattle.directory.specs.declared.Sheets.{Sheets}
 use Rattle.directory.specs.declared.Answer as directory
 use Rattle.directory.specs.declared.Answer.TheVariants as answer
-use Rattle.forecast.specs.declared.Counts.{Counts}
 use Rattle.forecast.specs.declared.Answer as forecast
 use Rattle.forecast.specs.declared.Answer.TheVariants as foretold
 use Rattle.sealing.specs.declared.Choice.{Choice}

@@ -5,7 +5,7 @@ use mathlib.Core.List.{List}
 use mathlib.Core.Option.{Option, none, some}
 use Prim.Native.Nat.{ℕ}
 use Rattle.binary_office.specs.declared.WalkEnd.{WalkEnd}
-use Rattle.binary_office.specs.Walk.{Walk, walk}
+use Rattle.binary_office.specs.Walk.{walk}
 use Rattle.file_params.specs.Questions.{asked, in_order}
 use Rattle.survey.specs.declared.Checked.{Checked}
 use Rattle.file_params.specs.declared.Refusal.{Refusal}

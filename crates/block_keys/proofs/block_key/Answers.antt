@@ -20,7 +20,7 @@ pub returns-in-Office97 : goal.returns-in-Office97
 unfolding tabulate
 returns-in-Office97 c =
     let twenty : length c.args.schedule.digest ≡ 20 =
-      search rules in
+    search rules in
     c.block_key.ensures
     ∙ ap derived (ap (λ (l : List ℕ). office97.block_key l c.args.block) (heads c.args.schedule.digest 5 (five _ (twenty)))
     ∙ sym (key_97 c.args.schedule c.args.block c.in-Office97.is))

@@ -1,14 +1,8 @@
 -- `block_keys::copy_part` meets its contract: after i turns the first i places are those of the definition.
 -- Assumes nothing.
-use mathlib.Core.Path.{◌≡◌, refl, sym, ap, ◌∙◌}
-use Prim.Native.Nat.{ℕ, ◌+◌, ◌-◌, ◌≤◌}
-use native.Mathlib.Nat.{le_of_eq}
-use native.Mathlib.Omega.{arith}
-use lib.ListN.{length, get_or, take}
-use lib.Seq.{take_all}
-use Rattle.laws.specs.Offsets.{tabulate}
-use Rattle.laws.proofs.Offsets.{tabulate_store}
-use borrow.Author.Rules.{rules}
+use mathlib.Core.Path.{◌≡◌}
+use Prim.Native.Nat.{◌-◌, ◌≤◌}
+use lib.ListN.{length, take}
 use Rattle.block_keys.specs.Lock.{part}
 use Rattle.block_keys.proofs.copy_part.Given as goal
 

@@ -1,10 +1,9 @@
 -- `block_keys::crypto_api` meets its contract: what the structure's parse told.
 -- Assumes nothing.
-use mathlib.Core.Path.{sym, ◌∙◌}
+use mathlib.Core.Path.{sym}
 use Rattle.file_params.specs.Questions.{asked, crypto_api}
 use Rattle.rc4_cryptoapi.specs.Parse.{parsed, header}
 use Rattle.block_keys.specs.Lock.{crypto_api_lock}
-use borrow.Author.Rules.{rules}
 use Rattle.block_keys.proofs.Schemes.{refused_api, read_api}
 use Rattle.block_keys.proofs.crypto_api.Goals as goal
 

@@ -1,10 +1,9 @@
 -- `block_keys::decrypt_block` meets its contract: the part comes back written by the keystream of the block's key, whose length fits.
 -- Assumes nothing.
-use borrow.Author.Rules.{rules}
 use Prim.Native.Nat.{◌-◌}
 use lib.ListN.{take, drop}
 use Rattle.block_keys.specs.BlockKeys.{block_key}
-use Rattle.block_keys.proofs.Answers.{handed_room, handed_count, part_handed}
+use Rattle.block_keys.proofs.Answers.{part_handed}
 use Rattle.block_keys.proofs.Blocks.{one_block}
 use Rattle.block_keys.proofs.decrypt_block.Goals as goal
 

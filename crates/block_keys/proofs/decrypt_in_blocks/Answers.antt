@@ -1,7 +1,6 @@
 -- `block_keys::decrypt_in_blocks` meets its contract: pairs of blocks, and then what is left.
 -- Assumes nothing.
 use Rattle.block_keys.specs.BlockKeys.{block_key}
-use borrow.Author.Rules.{rules}
 use Rattle.block_keys.proofs.Blocks.{no_blocks, all_blocks}
 use Rattle.block_keys.proofs.decrypt_in_blocks.Goals as goal
 

@@ -1,10 +1,9 @@
 -- `block_keys::decrypt_pair` meets its contract: the part comes back written by the keystreams of two blocks' keys, whose lengths fit.
 -- Assumes nothing.
-use borrow.Author.Rules.{rules}
 use Prim.Native.Nat.{◌+◌, ◌-◌}
 use lib.ListN.{take, drop}
 use Rattle.block_keys.specs.BlockKeys.{block_key}
-use Rattle.block_keys.proofs.Answers.{handed_room, handed_count, halves_handed}
+use Rattle.block_keys.proofs.Answers.{halves_handed}
 use Rattle.block_keys.proofs.Blocks.{two_blocks}
 use Rattle.block_keys.proofs.decrypt_pair.Goals as goal
 

@@ -1,13 +1,11 @@
 -- `block_keys::decrypt_rest` meets its contract: the blocks up to the offset are written, and only the last may be cut.
 -- Assumes nothing.
 use borrow.Author.Rules.{rules}
-use mathlib.Core.Path.{◌≡◌, refl, sym, ap, ◌∙◌}
-use Prim.Native.Nat.{ℕ, ◌+◌, ◌-◌, ◌*◌, ◌^◌, ◌≤◌, ◌<◌, min}
+use mathlib.Core.Path.{◌≡◌, sym, ap, ◌∙◌}
+use Prim.Native.Nat.{ℕ, ◌+◌, ◌-◌, ◌<◌, min}
 use native.Mathlib.Omega.{arith}
-use lib.ListN.{length}
-use Rattle.laws.proofs.Written.{Written, written_none}
-use Rattle.block_keys.specs.BlockKeys.{block_key, deciphered_at}
-use Rattle.block_keys.proofs.Blocks.{one_more, fewer, started_are, block_more}
+use Rattle.block_keys.specs.BlockKeys.{block_key}
+use Rattle.block_keys.proofs.Blocks.{one_more, started_are, block_more}
 use Rattle.block_keys.proofs.decrypt_rest.Goals as goal
 
 next : (size n at m : ℕ) → m ≡ min size (n - at) → at + m < n → m ≡ size

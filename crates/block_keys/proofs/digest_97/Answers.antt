@@ -1,13 +1,11 @@
 -- `block_keys::digest_97` meets its contract: the five bytes made from H0, where there is one.
 -- Assumes nothing.
-use mathlib.Core.Path.{◌≡◌, refl, sym, ap, ◌∙◌}
+use mathlib.Core.Path.{ap, ◌∙◌}
 use mathlib.Core.List.{List, ◌++◌}
 use Prim.Native.Nat.{ℕ}
 use borrow.Author.Tests.{not-true, not-false}
 use lib.ListN.{replicate}
 use Rattle.rc4_office97.specs.Keys.{truncated}
-use Rattle.password_digest.specs.Digest.{md5_of}
-use borrow.Author.Rules.{rules}
 use Rattle.block_keys.proofs.Answers.{digests_none, digests_some}
 use Rattle.block_keys.proofs.digest_97.Goals as goal
 

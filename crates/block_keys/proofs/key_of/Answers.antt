@@ -1,6 +1,5 @@
 -- `block_keys::key_of` meets its contract: the key takes a block's number by its four low bytes.
 -- Assumes nothing.
-use borrow.Author.Rules.{rules}
 use mathlib.Core.Path.{◌∙◌, ap}
 use Rattle.sensitive.specs.Derived.{derived}
 use Rattle.block_keys.proofs.Blocks.{block_number}

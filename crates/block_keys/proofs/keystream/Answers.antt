@@ -1,7 +1,6 @@
 -- `block_keys::keystream` meets its contract: a block's key has a length that a keystream is made from.
 -- Assumes nothing.
-use borrow.Author.Rules.{rules}
-use Rattle.block_keys.proofs.Answers.{handed_room, handed_count, handed_stream}
+use Rattle.block_keys.proofs.Answers.{handed_stream}
 use Rattle.block_keys.proofs.keystream.Goals as goal
 
 pub returns : goal.returns

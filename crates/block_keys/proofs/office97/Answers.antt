@@ -1,9 +1,8 @@
 -- `block_keys::office97` meets its contract: what the structure's parse told.
 -- Assumes nothing.
-use mathlib.Core.Path.{sym, ◌∙◌}
+use mathlib.Core.Path.{sym}
 use Rattle.file_params.specs.Questions.{asked, office97}
 use Rattle.rc4_office97.specs.Parse.{parsed}
-use borrow.Author.Rules.{rules}
 use Rattle.block_keys.proofs.Schemes.{refused_97, read_97}
 use Rattle.block_keys.proofs.office97.Goals as goal
 

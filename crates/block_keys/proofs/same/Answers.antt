@@ -1,9 +1,7 @@
 -- `block_keys::same` meets its contract: after i turns the first i bytes have been compared.
 -- Assumes nothing.
-use mathlib.Core.Path.{◌≡◌, refl, sym, ap, ◌∙◌}
-use Prim.Native.Nat.{ℕ, ◌-◌, ◌≤◌}
+use mathlib.Core.Path.{refl}
 use native.Mathlib.Numerals.{add-one}
-use native.Mathlib.Omega.{arith}
 use borrow.Author.Rules.{rules}
 use Rattle.block_keys.specs.BlockKeys.{agree}
 use Rattle.block_keys.proofs.same.Goals as goal

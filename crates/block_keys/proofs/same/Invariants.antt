@@ -1,10 +1,7 @@
 -- `block_keys::same` meets its contract: after i turns the first i bytes have been compared.
 -- Assumes nothing.
-use mathlib.Core.Path.{◌≡◌, refl, sym, ap, ◌∙◌}
-use Prim.Native.Nat.{ℕ, ◌-◌, ◌≤◌}
-use native.Mathlib.Numerals.{add-one}
-use native.Mathlib.Omega.{arith}
-use borrow.Author.Rules.{rules}
+use mathlib.Core.Path.{◌≡◌}
+use Prim.Native.Nat.{◌-◌, ◌≤◌}
 use Rattle.block_keys.specs.BlockKeys.{agree}
 use Rattle.block_keys.proofs.same.Given as goal
 

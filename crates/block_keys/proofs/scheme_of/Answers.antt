@@ -1,6 +1,6 @@
 -- `block_keys::scheme_of` meets its contract: the version pair picks the family, and each way out is one case of the definition.
 -- Assumes nothing.
-use mathlib.Core.Path.{sym, ◌∙◌}
+use mathlib.Core.Path.{◌∙◌}
 use Rattle.std.proofs.Common.{arith}
 use Rattle.block_keys.proofs.Schemes.{one_other, api_other, not_one, low, high, api, no_major, no_minor, other_version, version_97, version_api}
 use Rattle.block_keys.proofs.scheme_of.Goals as goal

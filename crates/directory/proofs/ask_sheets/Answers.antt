@@ -1,8 +1,6 @@
 -- `directory::ask_sheets` meets its contract: each way out is one answer of the two questions.
 -- Assumes nothing.
 use mathlib.Core.Path.{sym, ◌∙◌}
-use borrow.Author.Rules.{rules}
-use Rattle.directory.specs.Directory.{unpaired}
 use Rattle.directory.proofs.Checks.{found_there, found_nowhere, sheet_refused, bracket_refused, sheets_told}
 use Rattle.directory.proofs.ask_sheets.Goals as goal
 

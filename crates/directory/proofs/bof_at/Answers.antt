@@ -2,7 +2,7 @@
 -- Assumes nothing.
 use mathlib.Core.Path.{◌≡◌, refl, sym, ◌∙◌}
 use mathlib.Core.List.{List}
-use Prim.Native.Nat.{ℕ, ◌-◌, ◌≤◌, ◌<◌}
+use Prim.Native.Nat.{ℕ, ◌≤◌, ◌<◌}
 use native.Mathlib.Omega.{arith}
 use lib.Dec.{leb}
 use lib.ListN.{length}
@@ -12,11 +12,11 @@ use Rattle.binary_office.specs.Walk.{walk_at, walk}
 use Rattle.binary_office.proofs.Walks.{record_within}
 use Rattle.binary_office.proofs.Along.{records_end_lem, records_fault}
 use borrow.Author.Tests.{le-leb, lt-leb}
-use borrow.Author.Rules.{rules}
 use Rattle.directory.specs.Directory.{bof_at}
 use Rattle.directory.specs.Steps.{Reaches}
 use Rattle.directory.proofs.Records.{no_bofs, bof_on, bof_here}
 use Rattle.directory.proofs.bof_at.Goals as goal
+
 -- the search begins at a header that the walk reaches
 
 begun : (s : List ℕ) (from offset at : ℕ) → Reaches s from → at ≡ pick (leb from offset) from 0
@@ -39,9 +39,9 @@ loop-id-smaller c = let h = record_within c.args.stream.now c.loop-id.at _ _ (sy
 
 pub loop-id-preserved : goal.loop-id-preserved
 loop-id-preserved c = let e = sym c.in-Record.ensures in (
-      record_within c.args.stream.now c.loop-id.at _ _ e,
-      sym (bof_on c.args.stream.now c.loop-id.at _ _ e c.args.offset (apart _ _ c.if-offset-at.false)) ∙ c.loop-id.invariant.1,
-    )
+  record_within c.args.stream.now c.loop-id.at _ _ e,
+  sym (bof_on c.args.stream.now c.loop-id.at _ _ e c.args.offset (apart _ _ c.if-offset-at.false)) ∙ c.loop-id.invariant.1,
+)
   where
     apart : (a b : ℕ) → a < b → a ≡ b → ⊥
     apart a b h g = omega arith

@@ -1,7 +1,6 @@
 -- `directory::directory` meets its contract: question 4, those of the walk, and those of the sheets, in their order.
 -- Assumes nothing.
 use mathlib.Core.Path.{◌∙◌}
-use borrow.Author.Rules.{rules}
 use Rattle.directory.proofs.Checks.{too_large, walk_refused, walk_fine}
 use Rattle.directory.proofs.directory.Goals as goal
 

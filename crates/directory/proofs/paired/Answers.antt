@@ -1,10 +1,8 @@
 -- `directory::paired` meets its contract: each way out is one case of the record that is added.
 -- Assumes nothing.
 use mathlib.Core.Path.{refl, ◌∙◌}
-use native.Mathlib.Omega.{arith}
 use borrow.Author.Tests.{eq-eqb, ne_eqb}
 use Rattle.laws.proofs.Choice.{stop, skip}
-use borrow.Author.Rules.{rules}
 use Rattle.directory.proofs.paired.Goals as goal
 
 pub returns-then-id-eq2057 : goal.returns-then-id-eq2057

@@ -1,6 +1,5 @@
 -- `directory::start_of` meets its contract: the word of its four bytes.
 -- Assumes nothing.
-use borrow.Author.Rules.{rules}
 use Rattle.word.specs.Word.{le32}
 use Rattle.directory.proofs.start_of.Goals as goal
 

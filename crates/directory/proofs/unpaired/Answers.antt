@@ -3,7 +3,6 @@
 use mathlib.Core.Path.{refl, ap}
 use borrow.Author.Tests.{eq-eqb, ne_eqb}
 use Rattle.laws.proofs.Choice.{stop, skip}
-use borrow.Author.Rules.{rules}
 use Rattle.directory.specs.Directory.{unpaired}
 use Rattle.directory.specs.Steps.{found_of}
 use Rattle.directory.proofs.unpaired.Goals as goal

@@ -3,10 +3,9 @@
 use mathlib.Core.Path.{refl, sym, ap, ◌∙◌}
 use Prim.Native.Nat.{◌≤◌, ◌<◌}
 use native.Mathlib.Omega.{arith}
-use borrow.Author.Tests.{le-leb, lt-leb, not-true, not-false}
+use borrow.Author.Tests.{le-leb, lt-leb}
 use Rattle.file_params.specs.Questions.{asked, lent}
 use Rattle.file_params.proofs.Laws.{past, refused}
-use borrow.Author.Rules.{rules}
 use Rattle.survey.specs.Checked.{checked_of}
 use Rattle.excel97.proofs.check_lent.Goals as goal
 

@@ -1,9 +1,7 @@
 -- `excel97::field` meets its contract: the field is there.
 -- Assumes nothing.
-use mathlib.Core.Path.{sym, ◌∙◌}
 use Prim.Native.Nat.{ℕ, ◌+◌, ◌≤◌, ◌<◌}
 use native.Mathlib.Omega.{arith}
-use borrow.Author.Rules.{rules}
 use Rattle.binary_office.proofs.Headers.{le16_is, le16_cut}
 use Rattle.excel97.proofs.field.Goals as goal
 

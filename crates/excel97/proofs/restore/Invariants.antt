@@ -1,18 +1,11 @@
 -- `excel97::restore` meets its contract: the records up to the offset have their own headers and clear parts again, and behind them what is left of the stream is put back.
 -- Assumes nothing.
-use mathlib.Core.Path.{sym, ap, ◌∙◌}
-use Prim.Native.Nat.{ℕ, ◌+◌, ◌-◌}
-use native.Mathlib.Omega.{arith}
+use Prim.Native.Nat.{ℕ, ◌-◌}
 use lib.ListN.{length, get_or}
-use Rattle.laws.proofs.Written.{Written, written_none}
+use Rattle.laws.proofs.Written.{Written}
 use Rattle.binary_office.specs.Walk.{BiffRecord}
-use Rattle.binary_office.proofs.Along.{records_end_lem, records_fault}
-use Rattle.binary_office.proofs.Walks.{record_within}
 use Rattle.excel97.specs.Steps.{through_at}
-use Rattle.survey.proofs.Records.{clear_within}
-use Rattle.excel97.proofs.Records.{Reached, reached_none, reached_on}
-use borrow.Author.Rules.{rules}
-use Rattle.excel97.proofs.Through.{through_kept, through_rest}
+use Rattle.excel97.proofs.Records.{Reached}
 use Rattle.excel97.proofs.restore.Given as goal
 
 abbrev pub invariant-loop-id : goal.invariant-loop-id

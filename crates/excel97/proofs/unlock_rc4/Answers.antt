@@ -1,21 +1,17 @@
 -- `excel97::unlock_rc4` meets its contract: the schedule, the check, the deciphered stream, and the blanked FILEPASS.
 -- Assumes nothing.
-use mathlib.Core.Path.{◌≡◌, refl, sym, ◌∙◌}
-use mathlib.Core.Bool.{true}
+use mathlib.Core.Path.{◌≡◌, refl, ◌∙◌}
 use mathlib.Core.List.{List}
-use Prim.Native.Nat.{ℕ, ◌+◌, ◌-◌, ◌^◌, ◌≤◌, ◌<◌}
+use Prim.Native.Nat.{ℕ, ◌+◌, ◌-◌, ◌^◌, ◌<◌}
 use native.Mathlib.Omega.{arith}
 use lib.Bits.{bit_xor}
 use lib.ListN.{length, take, drop}
-use borrow.Author.Tests.{not-true, not-false}
 use Rattle.binary_office.specs.Walk.{BiffRecord}
-use Rattle.file_params.specs.Questions.{filepass_body, structure_of}
+use Rattle.file_params.specs.Questions.{filepass_body}
 use Rattle.laws.proofs.Choice.{stop, skip}
 use Rattle.block_keys.specs.BlockKeys.{schedule_of, block_key, keystream_at, started_blocks}
 use Rattle.block_keys.specs.Lock.{part}
-use Rattle.block_keys.proofs.Schedules.{made, left_zero, schedule_made}
-use Rattle.excel97.proofs.Blanked.{never}
-use borrow.Author.Rules.{rules}
+use Rattle.block_keys.proofs.Schedules.{left_zero, schedule_made}
 use Rattle.survey.proofs.Asked.{body_slice}
 use Rattle.excel97.proofs.Unlocked.{structure_slice, plain_left, unlocks_no, unlocks_yes, rc4_told, rc4_plain, keys_in_all}
 use Rattle.excel97.proofs.unlock_rc4.Goals as goal
@@ -45,8 +41,7 @@ returns-then-not-verify c =
     let structure = structure_in body in
     let structure_is = structure_slice c.args.stream.now body body_is in
     let schedule_is : c.schedule_of-scheduled.result.schedule ≡ schedule_of c.args.lock.kind c.args.lock.key_bits (part structure c.args.lock.salt 16) c.args.password.now =
-      schedule_made _ _ _ c.args.password.now c.args.scratch.now _ _ c.schedule_of-scheduled.ensures c.requires.5 c.requires.4 in
-    (
+    schedule_made _ _ _ c.args.password.now c.args.scratch.now _ _ c.schedule_of-scheduled.ensures c.requires.5 c.requires.4 in (
       unlocks_no c.args.stream.now c.args.password.now c.args.output.now
           (rc4_told (filepass_body c.args.stream.now) c.args.password.now structure c.args.lock _ c.requires.1 structure_is
           c.requires.3 (schedule_is) _ c.verify.ensures
@@ -67,8 +62,7 @@ returns c =
     let structure = structure_in body in
     let structure_is = structure_slice c.args.stream.now body body_is in
     let schedule_is : c.schedule_of-scheduled.result.schedule ≡ schedule_of c.args.lock.kind c.args.lock.key_bits (part structure c.args.lock.salt 16) c.args.password.now =
-      schedule_made _ _ _ c.args.password.now c.args.scratch.now _ _ c.schedule_of-scheduled.ensures c.requires.5 c.requires.4 in
-    (
+    schedule_made _ _ _ c.args.password.now c.args.scratch.now _ _ c.schedule_of-scheduled.ensures c.requires.5 c.requires.4 in (
       unlocks_yes c.args.stream.now c.args.password.now c.args.output.now _
           (rc4_told (filepass_body c.args.stream.now) c.args.password.now structure c.args.lock _ c.requires.1 structure_is
           c.requires.3 (schedule_is) _ c.verify.ensures

@@ -1,14 +1,10 @@
 -- `excel97::unlock_xor` meets its contract: the check, the loop over the records, and the blanked FILEPASS.
 -- Assumes nothing.
-use mathlib.Core.Path.{◌≡◌, refl, sym, ap, ◌∙◌}
-use Prim.Native.Nat.{◌≤◌}
-use lib.ListN.{length}
+use mathlib.Core.Path.{sym, ◌∙◌}
 use borrow.Author.Tests.{not-true, not-false}
 use Rattle.file_params.specs.Questions.{filepass_body}
-use Rattle.sensitive.specs.Ansi.{ansi}
 use Rattle.xor_obfuscation.specs.declared.Way.TheVariants.{Decrypt}
-use Rattle.excel97.specs.Open.{xor_byte, xor_matches}
-use borrow.Author.Rules.{rules}
+use Rattle.excel97.specs.Open.{xor_byte}
 use Rattle.survey.proofs.Asked.{body_slice}
 use Rattle.excel97.proofs.Unlocked.{plain_left, unlocks_no, unlocks_yes, xor_passes, xor_bytes}
 use Rattle.excel97.proofs.unlock_xor.Goals as goal

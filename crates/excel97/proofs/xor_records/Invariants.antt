@@ -1,16 +1,11 @@
 -- `excel97::xor_records` meets its contract: the records up to the offset are written, and behind them what is left of the stream.
 -- Assumes nothing.
-use mathlib.Core.Path.{sym, ◌∙◌}
 use Prim.Native.Nat.{◌-◌}
-use native.Mathlib.Omega.{arith}
 use lib.ListN.{length}
-use Rattle.binary_office.proofs.Along.{records_end_lem, records_fault}
-use Rattle.binary_office.proofs.Walks.{record_within}
 use Rattle.excel97.specs.Open.{xor_byte}
 use Rattle.excel97.specs.Steps.{through_at}
-use Rattle.excel97.proofs.Records.{Reached, reached_none, reached_on}
-use borrow.Author.Rules.{rules}
-use Rattle.excel97.proofs.Through.{WrittenUpTo, up_to_none, up_to_record, up_to_rest}
+use Rattle.excel97.proofs.Records.{Reached}
+use Rattle.excel97.proofs.Through.{WrittenUpTo}
 use Rattle.excel97.proofs.xor_records.Given as goal
 
 abbrev pub invariant-loop-id : goal.invariant-loop-id

@@ -1,8 +1,7 @@
 -- `forecast::forecast` meets its contract: what the survey told, and the keys of the lock.
 -- Assumes nothing.
-use mathlib.Core.Path.{sym, ◌∙◌}
+use mathlib.Core.Path.{sym}
 use Rattle.survey.specs.Survey.{surveyed}
-use borrow.Author.Rules.{rules}
 use Rattle.forecast.proofs.Foretold.{foretold_refused, foretold}
 use Rattle.forecast.proofs.forecast.Goals as goal
 

@@ -1,6 +1,5 @@
 -- `forecast::keys_of` meets its contract: the two locks.
 -- Assumes nothing.
-use borrow.Author.Rules.{rules}
 use Rattle.block_keys.specs.BlockKeys.{started_blocks}
 use Rattle.forecast.proofs.keys_of.Goals as goal
 

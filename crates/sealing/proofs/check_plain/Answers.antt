@@ -1,6 +1,5 @@
 -- `sealing::check_plain` meets its contract: where questions 6 and 7 are passed, those of the choice are asked.
 -- Assumes nothing.
-use borrow.Author.Rules.{rules}
 use mathlib.Core.Path.{sym, ap, ◌∙◌}
 use Rattle.binary_office.specs.Walk.{walk}
 use Rattle.file_params.specs.Questions.{asked, in_order}

@@ -8,9 +8,9 @@ use lib.ListN.{length, replicate}
 use Rattle.block_keys.specs.declared.Schedule.{Schedule}
 use Rattle.block_keys.specs.BlockKeys.{encrypted_verifier, encrypted_verifier_hash, started_blocks, digest_len}
 use Rattle.block_keys.proofs.Schedules.{left_zero, schedule_made}
-use borrow.Author.Rules.{rules}
 use Rattle.sealing.proofs.Locked.{by_schedule}
 use Rattle.sealing.proofs.encipher.Goals as goal
+
 -- the keys of all blocks, and one more
 
 few : (n : ℕ) → n < 2 ^ 63 → 1 + started_blocks 1024 n < 2 ^ 64

@@ -2,7 +2,6 @@
 -- Assumes nothing.
 use mathlib.Core.Path.{◌≡◌, refl}
 use lib.ListN.{length}
-use Rattle.block_keys.specs.declared.Schedule.{Schedule}
 use Rattle.block_keys.specs.declared.Kind.TheVariants as kind
 use Rattle.block_keys.specs.BlockKeys.{schedule_of}
 use Rattle.excel97.specs.Steps.{rc4_at}
@@ -16,7 +15,7 @@ use Rattle.sealing.proofs.lock_crypto_api.Goals as goal
 pub returns : goal.returns
 returns c =
     let salt_sixteen : length c.args.salt ≡ 16 =
-      search rules in
+    search rules in
     let s = schedule_of kind.CryptoApi c.args.bits c.args.salt c.args.password.now in
     record {
       locks = locks c.args.plain.now c.args.at c.args.len (rc4_at s) (crypto_api_body s c.args.major c.args.bits c.args.len c.args.salt c.args.verifier) c.args.output.now _ _ _

@@ -1,12 +1,8 @@
 -- `sealing::put` meets its contract: after i turns the first i bytes are put.
 -- Assumes nothing.
-use borrow.Author.Rules.{rules}
-use mathlib.Core.Path.{◌≡◌, ap}
-use native.Mathlib.Nat.{add-zero, add_assoc}
-use native.Mathlib.Omega.{arith}
 use Prim.Native.Nat.{ℕ, ◌+◌, ◌≤◌, ◌-◌}
 use lib.ListN.{length, get_or}
-use Rattle.laws.proofs.Written.{Written, written_none, written_more}
+use Rattle.laws.proofs.Written.{Written}
 use Rattle.sealing.proofs.put.Given as goal
 
 abbrev pub invariant-loop-i : goal.invariant-loop-i

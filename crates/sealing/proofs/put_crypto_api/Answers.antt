@@ -1,7 +1,7 @@
 -- `sealing::put_crypto_api` meets its contract: each part starts where the one before it ends.
 -- Assumes nothing.
 use borrow.Author.Rules.{rules}
-use mathlib.Core.Path.{◌≡◌, refl, sym, ap, ◌∙◌}
+use mathlib.Core.Path.{◌≡◌, refl, ap, ◌∙◌}
 use mathlib.Core.List.{List, ◌++◌}
 use Prim.Native.Nat.{ℕ, ◌+◌, ◌-◌}
 use native.Mathlib.Omega.{arith}
@@ -18,9 +18,9 @@ header_len_lem len = omega arith
 pub returns : goal.returns
 returns c =
     let salt_sixteen : length c.args.salt ≡ 16 =
-      search rules in
+    search rules in
     let verifier_sixteen : length c.args.encrypted.verifier ≡ 16 =
-      search rules in
+    search rules in
     let n = c.args.len - 106 in
     let tail = c.args.at + 46 + n in
     let head : List ℕ = crypto_api_head c.args.major c.args.bits (header_len c.args.len) in

@@ -1,20 +1,20 @@
 -- `sealing::put_office97` meets its contract: each part starts where the one before it ends.
 -- Assumes nothing.
 use borrow.Author.Rules.{rules}
-use mathlib.Core.Path.{◌≡◌, refl, sym}
+use mathlib.Core.Path.{◌≡◌, refl}
 use mathlib.Core.List.{[], ◌∷◌, ◌++◌}
 use Prim.Native.Nat.{◌+◌}
 use native.Mathlib.Omega.{arith}
-use lib.ListN.{length, take, length-take}
+use lib.ListN.{length, take}
 use Rattle.sealing.proofs.Puts.{put_on}
 use Rattle.sealing.proofs.put_office97.Goals as goal
 
 pub returns : goal.returns
 returns c =
     let salt_sixteen : length c.args.salt ≡ 16 =
-      search rules in
+    search rules in
     let verifier_sixteen : length c.args.encrypted.verifier ≡ 16 =
-      search rules in
+    search rules in
     let hash = take 16 c.args.encrypted.hash in
     let s = salt_sixteen in
     let v = verifier_sixteen in

@@ -1,12 +1,8 @@
 -- `sealing::put_zeros` meets its contract: after i turns the first i zeros are put.
 -- Assumes nothing.
-use borrow.Author.Rules.{rules}
-use mathlib.Core.Path.{◌≡◌, sym}
-use native.Mathlib.Nat.{add-zero, add_assoc}
-use native.Mathlib.Omega.{arith}
 use Prim.Native.Nat.{ℕ, ◌+◌, ◌≤◌, ◌-◌}
-use lib.ListN.{length, get_or, length-replicate, get_or-replicate}
-use Rattle.laws.proofs.Written.{Written, written_none, written_more}
+use lib.ListN.{get_or}
+use Rattle.laws.proofs.Written.{Written}
 use Rattle.binary_office.specs.Walk.{zero_bytes}
 use Rattle.sealing.proofs.put_zeros.Given as goal
 

@@ -1,11 +1,10 @@
 -- `sealing::seal` meets its contract: questions 1 to 5 refuse and touch nothing; past them the scratch is wiped whatever is settled.
 -- Assumes nothing.
-use mathlib.Core.Path.{refl, sym, ◌∙◌}
+use mathlib.Core.Path.{refl, sym}
 use lib.ListN.{length}
 use Rattle.file_params.specs.Questions.{scratch_need, asked, lent}
 use Rattle.survey.proofs.Groups.{checked_refused, checked_fine}
 use Rattle.excel97.proofs.Settled.{lent_tells}
-use borrow.Author.Rules.{rules}
 use Rattle.sealing.proofs.Outcome.{refused_lent, settled_all}
 use Rattle.sealing.proofs.seal.Goals as goal
 

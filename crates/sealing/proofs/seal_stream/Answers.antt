@@ -1,11 +1,9 @@
 -- `sealing::seal_stream` meets its contract: the questions of the plain stream, group after group, and the sealing behind them.
 -- Assumes nothing.
-use mathlib.Core.Path.{◌≡◌, sym, ◌∙◌}
-use Rattle.sealing.specs.Seal.{fits}
-use borrow.Author.Tests.{not-true, not-false}
-use borrow.Author.Rules.{rules}
+use mathlib.Core.Path.{sym, ◌∙◌}
 use Rattle.sealing.proofs.Outcome.{front_refused, zero_missing, length_unfit, is_ready, refused_alone}
 use Rattle.sealing.proofs.seal_stream.Goals as goal
+
 -- no zero record
 
 pub returns-in_default : goal.returns-in_default

@@ -2,7 +2,6 @@
 -- Assumes nothing.
 use mathlib.Core.Path.{sym, ap, ◌∙◌}
 use Rattle.binary_office.specs.Walk.{walk}
-use borrow.Author.Rules.{rules}
 use Rattle.survey.specs.Checked.{checked_of}
 use Rattle.survey.proofs.First.{unreadable, no_bof, in_order_lem}
 use Rattle.survey.proofs.check_records.Goals as goal

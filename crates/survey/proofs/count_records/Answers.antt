@@ -1,6 +1,5 @@
 -- `survey::count_records` meets its contract: the counts are three of what is tallied.
 -- Assumes nothing.
-use borrow.Author.Rules.{rules}
 use Rattle.survey.specs.Steps.{tally_of}
 use Rattle.survey.proofs.count_records.Goals as goal
 

@@ -9,9 +9,9 @@ use lib.Dec.{eqb, ltb}
 use Rattle.laws.specs.Choice.{pick}
 use Rattle.laws.proofs.Choice.{taken, left, either}
 use Rattle.binary_office.specs.Walk.{never_encrypted, clear_len}
-use borrow.Author.Rules.{rules}
 use Rattle.survey.proofs.Records.{clear_within}
 use Rattle.survey.proofs.enciphered_len.Goals as goal
+
 -- the smaller of two numbers
 
 smaller : (len most : ℕ) → pick (ltb len most) len most ≡ min most len
@@ -35,11 +35,11 @@ by_tests id len most few clear e f g = g ∙ ap (pick (never_encrypted id) len) 
 pub overflow_sub-result : goal.overflow_sub-result
 overflow_sub-result c =
     let clear_is : c.one_of.result ≡ clear_len c.args.id c.args.len =
-      by_tests c.args.id c.args.len _ _ _ c.one_of-most.ensures c.one_of-few.ensures (rw c.never_encrypted.ensures at c.one_of.ensures) in
+    by_tests c.args.id c.args.len _ _ _ c.one_of-most.ensures c.one_of-few.ensures (rw c.never_encrypted.ensures at c.one_of.ensures) in
     rw (clear_is) (clear_within c.args.id c.args.len)
 
 pub returns : goal.returns
 returns c =
     let clear_is : c.one_of.result ≡ clear_len c.args.id c.args.len =
-      by_tests c.args.id c.args.len _ _ _ c.one_of-most.ensures c.one_of-few.ensures (rw c.never_encrypted.ensures at c.one_of.ensures) in
+    by_tests c.args.id c.args.len _ _ _ c.one_of-most.ensures c.one_of-few.ensures (rw c.never_encrypted.ensures at c.one_of.ensures) in
     ap (λ (n : ℕ). c.args.len - n) (clear_is)

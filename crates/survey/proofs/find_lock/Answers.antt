@@ -9,9 +9,9 @@ use lib.ListN.{length, take, drop, length-drop}
 use lib.Seq.{take_all}
 use Rattle.binary_office.proofs.Headers.{le16_within}
 use Rattle.block_keys.specs.Lock.{scheme_of}
-use borrow.Author.Rules.{rules}
 use Rattle.survey.proofs.Locked.{no_type, xor_cut, xor_lock, other_type, rc4_refused, rc4_locked}
 use Rattle.survey.proofs.find_lock.Goals as goal
+
 -- a part up to the end
 
 behind : (xs : List ℕ) (n : ℕ) → take (length xs - n) (drop n xs) ≡ drop n xs

@@ -3,7 +3,6 @@
 use mathlib.Core.Path.{refl}
 use borrow.Author.Tests.{eq-eqb, ne_eqb}
 use Rattle.laws.proofs.Choice.{stop, skip}
-use borrow.Author.Rules.{rules}
 use Rattle.survey.proofs.found_on.Goals as goal
 
 pub returns-then-id-eq47 : goal.returns-then-id-eq47

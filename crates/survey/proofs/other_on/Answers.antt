@@ -2,7 +2,6 @@
 -- Assumes nothing.
 use mathlib.Core.Path.{refl, sym, ◌∙◌}
 use Rattle.laws.proofs.Choice.{stop, skip}
-use borrow.Author.Rules.{rules}
 use Rattle.survey.proofs.other_on.Goals as goal
 
 pub returns-then-never_encrypted : goal.returns-then-never_encrypted

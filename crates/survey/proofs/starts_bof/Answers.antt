@@ -1,8 +1,7 @@
 -- `survey::starts_bof` meets its contract: the first record is what stands at offset 0.
 -- Assumes nothing.
-use mathlib.Core.Path.{sym, ◌∙◌}
+use mathlib.Core.Path.{sym}
 use Rattle.binary_office.specs.Walk.{walk}
-use borrow.Author.Rules.{rules}
 use Rattle.binary_office.proofs.Along.{records_end_lem, records_fault}
 use Rattle.survey.proofs.First.{starts, not_bof}
 use Rattle.survey.proofs.starts_bof.Goals as goal

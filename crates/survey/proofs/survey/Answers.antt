@@ -7,7 +7,6 @@ use Rattle.survey.specs.declared.Tally.{Tally}
 use Rattle.survey.specs.Steps.{tally_of}
 use Rattle.survey.proofs.Asked.{too_large, out_of_walk, walked}
 use Rattle.survey.proofs.Groups.{checked_refused, checked_fine, of_walk_lem}
-use borrow.Author.Rules.{rules}
 use Rattle.survey.proofs.survey.Goals as goal
 
 pub returns-then-stream-gt-LEGACY_STREAM_READ_CAP : goal.returns-then-stream-gt-LEGACY_STREAM_READ_CAP

@@ -1,13 +1,9 @@
 -- `survey::tally_records` meets its contract: what was tallied before an offset and what is left from there on make the whole.
 -- Assumes nothing.
-use mathlib.Core.Path.{sym, ◌∙◌}
-use Prim.Native.Nat.{◌-◌}
+use mathlib.Core.Path.{sym}
 use native.Mathlib.Omega.{arith}
-use lib.ListN.{length}
 use Rattle.binary_office.proofs.Walks.{record_within}
-use Rattle.survey.proofs.Records.{clear_within}
-use borrow.Author.Rules.{rules}
-use Rattle.survey.proofs.Tallied.{Tallied, tallied_none, tallied_on, tallied_end, tallied_fault}
+use Rattle.survey.proofs.Tallied.{tallied_on, tallied_end, tallied_fault}
 use Rattle.survey.proofs.tally_records.Goals as goal
 
 pub returns-in-End : goal.returns-in-End

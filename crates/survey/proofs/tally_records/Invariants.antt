@@ -1,13 +1,8 @@
 -- `survey::tally_records` meets its contract: what was tallied before an offset and what is left from there on make the whole.
 -- Assumes nothing.
-use mathlib.Core.Path.{sym, ◌∙◌}
 use Prim.Native.Nat.{◌-◌}
-use native.Mathlib.Omega.{arith}
 use lib.ListN.{length}
-use Rattle.binary_office.proofs.Walks.{record_within}
-use Rattle.survey.proofs.Records.{clear_within}
-use borrow.Author.Rules.{rules}
-use Rattle.survey.proofs.Tallied.{Tallied, tallied_none, tallied_on, tallied_end, tallied_fault}
+use Rattle.survey.proofs.Tallied.{Tallied}
 use Rattle.survey.proofs.tally_records.Given as goal
 
 abbrev pub invariant-loop-offset : goal.invariant-loop-offset
