@@ -1,0 +1,10 @@
+-- `replay::main` meets its contract: the loop counts the outcomes.
+-- Assumes nothing.
+use Rattle.std.proofs.Common.{◌-◌, ◌≤◌}
+use Rattle.replay.proofs.main.Given as goal
+
+abbrev pub invariant-loop-k : goal.invariant-loop-k
+invariant-loop-k l = l.k ≤ 28
+
+abbrev pub decreases-loop-k : goal.decreases-loop-k
+decreases-loop-k l = 28 - l.k
