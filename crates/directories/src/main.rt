@@ -1,5 +1,5 @@
-// Asks for the directory of each stream in its data, through the C export, at each place that goes with it, and prints
-// the answer and all eight facts. tools/make_directories.py makes the data and what is expected.
+// Asks for the directory of each stream in its data, through the function that the C export calls, at each place that goes
+// with it, and prints the answer and all eight facts. tools/make_directories.py makes the data and what is expected.
 #![tactic(auto)]
 
 ghost use Rattle.std.specs.Prelude.{◌≡◌, length};

@@ -1,8 +1,8 @@
-// Runs a sample of the Rust source's own answers through the C exports: Look's verdict, Open's answer and every byte of
-// the plain stream, with the scratch and the rest of the output as they must be left; and the forecast of each stream. Prints
-// how many cases had each outcome, in how many Look's key size is judged by MS-OFFCRYPTO 2.3.5.1 and not by the Rust, in how
-// many the stream is padded and so judged by request T-05, how many forecasts refuse nothing, and how many cases differ.
-// oracle/README.md says how the sample is made.
+// Runs a sample of the Rust source's own answers through the functions that the C exports call: Look's verdict, Open's
+// answer and every byte of the plain stream, with the scratch and the rest of the output as they must be left; and the
+// forecast of each stream. Prints how many cases had each outcome, in how many Look's key size is judged by MS-OFFCRYPTO
+// 2.3.5.1 and not by the Rust, in how many the stream is padded and so judged by request T-05, how many forecasts refuse
+// nothing, and how many cases differ. oracle/README.md says how the sample is made.
 #![tactic(auto)]
 
 ghost use Rattle.std.specs.Prelude.{◌≡◌, length};

@@ -1,5 +1,5 @@
 // Looks at the streams in its data, compares the lock of each with the one before, says what opening will take, and opens
-// them, through the C exports; prints for each the answers, what is left of the scratch, and the output.
+// them, through the functions that the C exports call; prints for each the answers, what is left of the scratch, and the output.
 // tools/make_short_books.py makes the data and what is expected.
 #![tactic(auto)]
 
