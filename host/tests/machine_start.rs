@@ -154,7 +154,7 @@ fn builds_once_and_says_so() {
     let lines: Vec<&str> = said.lines().collect();
     let expected = "sheet: the first use here: the command is built first; this needs rt, cargo ";
     assert!(lines[0].starts_with(expected), "{said}");
-    assert!(lines[1].starts_with("sheet: proving the library, 24 crates: 6 minutes"));
+    assert!(lines[1].starts_with("sheet: proving the library, 24 crates: 9 minutes"));
     let begun = ["laws", "limits", "word", "sensitive", "file_params"];
     for (line, name) in lines[2..].iter().zip(begun) {
         assert!(
