@@ -343,16 +343,16 @@ fn run_case(rt: &impl Print, data: &[u8], counts: &mut [u64; KINDS]) -> io::Resu
     let password = number(data, 88 + name);
     let other_at = password_at + password + 4;
     let other = number(data, password_at + password);
-    let plain_at_lem = other_at + other + 4;
+    let plain_at = other_at + other + 4;
     let plain = number(data, other_at + other);
-    let want_at = plain_at_lem + plain + 4;
-    let want = number(data, plain_at_lem + plain);
+    let want_at = plain_at + plain + 4;
+    let want = number(data, plain_at + plain);
     run(
         rt,
         part(data, 88, name),
         part(data, password_at, password),
         part(data, other_at, other),
-        part(data, plain_at_lem, plain),
+        part(data, plain_at, plain),
         part(data, want_at, want),
         part(data, 0, 84),
         counts,
