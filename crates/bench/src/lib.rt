@@ -3,14 +3,12 @@
 
 ghost use Rattle.std.specs.Prelude.{◌≡◌, ◌&&◌, length};
 ghost use Rattle.laws.specs.Choice.{pick, within};
-ghost use Rattle.rc4.specs.Rc4.{keyed, made, enciphered, enciphered_halves};
+ghost use Rattle.rc4.specs.Rc4.{keyed, enciphered, enciphered_halves};
 ghost use Rattle.sha_1.specs.Sha1.{sha1};
 ghost use Rattle.md_5.specs.Md5.{md5};
 ghost use Rattle.xor_obfuscation.specs.Xor.{Transforms};
 ghost use Rattle.xor_obfuscation.specs.declared.Way.TheVariants.{Decrypt};
 ghost use Rattle.binary_office.specs.Walk.{walk};
-
-use rc4::Keystream;
 
 // The SHA-1 digest of a message.
 #[unsafe(no_mangle)]
@@ -28,20 +26,13 @@ pub extern "C" fn bench_md5(m: &[u8], out: &mut [u8; 16])
     *out = md_5::digest(m);
 }
 
-// The bytes of src under the keystream of a key, into dst; false for a key of no such length.
+// The bytes of src under the keystream of a key, into dst; false for a key of no such length, and dst stays as it is.
 #[unsafe(no_mangle)]
 pub extern "C" fn bench_rc4(key: &[u8], src: &[u8], dst: &mut [u8]) -> bool
-    ensures value { result ≡ (made key.now).ok }
-    ensures dst_after { dst.new ≡ pick result (enciphered (made key.now).keystream src.now dst.old) dst.old }
+    ensures value { result ≡ within 5 16 (length key.now) }
+    ensures dst_after { dst.new ≡ pick result (enciphered (keyed key.now) src.now dst.old) dst.old }
 {
-    let made = Keystream::new(key);
-    let ok = made.ok;
-    if !ok {
-        return false;
-    }
-    let keystream = made.keystream;
-    keystream.apply(src, dst);
-    true
+    rc4::apply_key(key, src, dst)
 }
 
 // The halves of src under the keystreams of two keys, into dst; false for a key of no such length, and dst stays as it is.

@@ -17,8 +17,8 @@ module _ (s : List ℕ) where
     pub records_on : (walk_at s at).records ≡ record { at = at; id = id; len = len } ∷ (walk_at s (at + 4 + len)).records
     records_on = ap (λ (w : Walk). w.records) (walk_record s at id len e)
 
-    pub ends_on : (walk_at s at).ends ≡ (walk_at s (at + 4 + len)).ends
-    ends_on = ap (λ (w : Walk). w.ends) (walk_record s at id len e)
+    pub ends_on : (walk_at s at).fault ≡ (walk_at s (at + 4 + len)).fault
+    ends_on = ap (λ (w : Walk). w.fault) (walk_record s at id len e)
 
   -- no record is left, at the end or at a fault
   pub records_end_lem : (at : ℕ) → step_at s at ≡ step.End → (walk_at s at).records ≡ []

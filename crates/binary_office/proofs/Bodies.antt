@@ -1,6 +1,7 @@
 -- The FILEPASS body that a look reads. Each yes has one: the scan is followed from header to header up to the FILEPASS that it stops at. It has no other: the way
 -- from a header is one record's, and ends at a FILEPASS. And where there is a way to one, the scan goes it.
 -- Assumes nothing.
+use Rattle.std.specs.Prelude.{Some, None, Option}
 use mathlib.Core.Path.{◌≡◌, refl, sym, ap, ◌∙◌}
 use mathlib.Core.Bool.{Bool, true, false, not, ◌&&◌, ◌||◌}
 use mathlib.Core.List.{List}
@@ -11,8 +12,6 @@ use lib.ListN.{length, take, drop}
 use borrow.Author.Tests.{eq-eqb, ne_eqb, eqb-true, eqb-false, leb-true, not-false}
 use Rattle.laws.specs.Choice.{pick}
 use Rattle.laws.proofs.Choice.{same_or}
-use Rattle.binary_office.specs.declared.Field16.{Field16}
-use Rattle.binary_office.specs.declared.Field16.TheVariants as two
 use Rattle.binary_office.specs.declared.Step.{Step}
 use Rattle.binary_office.specs.declared.Step.TheVariants as step
 use Rattle.binary_office.specs.declared.Facts.{Facts}
@@ -84,13 +83,13 @@ module _ (n : ℕ) (book : List ℕ) (from at : ℕ) where
 
 -- no way goes on from a FILEPASS, so that of two FILEPASS headers that are come to both are one
 module _ (book : List ℕ) where
-  stays : (n from at : ℕ) → le16_at book from ≡ two.Value 0x002F → comes_from (suc n) book from at ≡ true → from ≡ at
+  stays : (n from at : ℕ) → le16_at book from ≡ Some 0x002F → comes_from (suc n) book from at ≡ true → from ≡ at
   stays n from at i e = same_or from at (λ z. z) (λ f. let o = over n book from at e f in no o.id o.other ((record_there book from o.id o.len o.stands).id_there ∙ i))
     where
-      no : (id : ℕ) → eqb id 0x002F ≡ false → two.Value id ≡ two.Value 0x002F → from ≡ at
+      no : (id : ℕ) → eqb id 0x002F ≡ false → Some id ≡ Some 0x002F → from ≡ at
       no id f g = let z : id ≡ 0x002F = cc in absurd (eqb-false id 0x002F f z)
 
-  pub one_place : (n from a b : ℕ) → le16_at book a ≡ two.Value 0x002F → le16_at book b ≡ two.Value 0x002F → comes_from n book from a ≡ true → comes_from n book from b ≡ true
+  pub one_place : (n from a b : ℕ) → le16_at book a ≡ Some 0x002F → le16_at book b ≡ Some 0x002F → comes_from n book from a ≡ true → comes_from n book from b ≡ true
       → a ≡ b
   unfolding comes_from
   one_place zero from a b i j e g = sym (eqb-true from a e) ∙ eqb-true from b g
@@ -123,16 +122,16 @@ module _ (book : List ℕ) where
           ∙ scan_on book from o.id o.len there.id_there there.len_there (eqb-false o.id 0x002F o.other) o.seven there.within
 
 -- the body of a FILEPASS that there is a way to is found
-pub finds : (book : List ℕ) (at len : ℕ) → le16_at book 0 ≡ two.Value 0x0809 → comes_from (suc (length book)) book 0 at ≡ true → le16_at book at ≡ two.Value 0x002F
-    → le16_at book (at + 2) ≡ two.Value len
+pub finds : (book : List ℕ) (at len : ℕ) → le16_at book 0 ≡ Some 0x0809 → comes_from (suc (length book)) book 0 at ≡ true → le16_at book at ≡ Some 0x002F
+    → le16_at book (at + 2) ≡ Some len
     → Filepass (at + 4) len ≡ found book
 finds book at len b e i l =
     found_scan book 0x0809 (sym b) (Filepass (at + 4) len) refl (scan_found book at 0x002F len (sym i) (sym l) refl ∙ same_scan book (suc (length book)) 0 at e)
 
 says_yes : (s : List ℕ) (at len : ℕ)
     → let book = take 1048576 s in
-    le16_at book 0 ≡ two.Value 0x0809
-    → comes_from (suc (length book)) book 0 at ≡ true → le16_at book at ≡ two.Value 0x002F → le16_at book (at + 2) ≡ two.Value len
+    le16_at book 0 ≡ Some 0x0809
+    → comes_from (suc (length book)) book 0 at ≡ true → le16_at book at ≡ Some 0x002F → le16_at book (at + 2) ≡ Some len
     → look s ≡ Yes (facts_of (take len (drop (at + 4) book)))
 says_yes s at len b e i l = sym (look_found s _ (Filepass (at + 4) len) (finds (take 1048576 s) at len b e i l) refl)
 
@@ -140,8 +139,8 @@ says_yes s at len b e i l = sym (look_found s _ (Filepass (at + 4) len) (finds (
 record Stops (n : ℕ) (book : List ℕ) (from start len : ℕ) : Type 0 where
   at : ℕ
   reached : comes_from n book from at ≡ true
-  id : le16_at book at ≡ two.Value 0x002F
-  stated : le16_at book (at + 2) ≡ two.Value len
+  id : le16_at book at ≡ Some 0x002F
+  stated : le16_at book (at + 2) ≡ Some len
   body : start ≡ at + 4
 
 module _ (start len : ℕ) where
@@ -162,14 +161,14 @@ module _ (start len : ℕ) where
   stops zero book at e = never Unreadable e (λ k. cc)
   stops (suc n) book at e = by_id_lem (le16_at book at) refl e (stops n book)
     where
-      here : (id own : ℕ) → le16_at book at ≡ two.Value id → le16_at book (at + 2) ≡ two.Value own → eqb id 0x002F ≡ true
+      here : (id own : ℕ) → le16_at book at ≡ Some id → le16_at book (at + 2) ≡ Some own → eqb id 0x002F ≡ true
           → Filepass (at + 4) own ≡ it → Stops (suc n) book at start len
       here id own i l t k =
           let p : start ≡ at + 4 = cc in
           let q : own ≡ len = cc in
-          record { at = at; reached = comes_here n book at at refl; id = i ∙ ap two.Value (eqb-true id 0x002F t); stated = l ∙ ap two.Value q; body = p }
+          record { at = at; reached = comes_here n book at at refl; id = i ∙ ap Some (eqb-true id 0x002F t); stated = l ∙ ap Some q; body = p }
 
-      on : (id own : ℕ) → le16_at book at ≡ two.Value id → le16_at book (at + 2) ≡ two.Value own → eqb id 0x002F ≡ false → not (never_encrypted id) ≡ false
+      on : (id own : ℕ) → le16_at book at ≡ Some id → le16_at book (at + 2) ≡ Some own → eqb id 0x002F ≡ false → not (never_encrypted id) ≡ false
           → leb (at + 4 + own) (length book) ≡ true
           → Stops n book (at + 4 + own) start len → Stops (suc n) book at start len
       on id own i l other seven fits h =
@@ -183,10 +182,10 @@ module _ (start len : ℕ) where
             body = h.body;
           }
 
-      by_len : (id : ℕ) → le16_at book at ≡ two.Value id → (w : Field16) → le16_at book (at + 2) ≡ w → scan_by_length book at id (scan_from n book) w ≡ it
+      by_len : (id : ℕ) → le16_at book at ≡ Some id → (w : (Option ℕ)) → le16_at book (at + 2) ≡ w → scan_by_length book at id (scan_from n book) w ≡ it
           → ((m : ℕ) → scan_from n book m ≡ it → Stops n book m start len) → Stops (suc n) book at start len
-      by_len id i two.Short l k again = never Unreadable k (λ z. cc)
-      by_len id i (two.Value own) l k again =
+      by_len id i None l k again = never Unreadable k (λ z. cc)
+      by_len id i (Some own) l k again =
           by_test (eqb id 0x002F) _ _ k (here id own i l)
           (λ other past-id.
           by_test (not (never_encrypted id)) _ _ past-id (λ t z. never Other z (λ y. cc))
@@ -195,17 +194,17 @@ module _ (start len : ℕ) where
           (λ fits z. on id own i l other seven fits (again (at + 4 + own) z))
           (λ t z. never Unreadable z (λ y. cc))))
 
-      by_id_lem : (w : Field16) → le16_at book at ≡ w → scan_by_id book at (scan_from n book) w ≡ it
+      by_id_lem : (w : (Option ℕ)) → le16_at book at ≡ w → scan_by_id book at (scan_from n book) w ≡ it
           → ((m : ℕ) → scan_from n book m ≡ it → Stops n book m start len) → Stops (suc n) book at start len
-      by_id_lem two.Short i k again = never Unreadable k (λ z. cc)
-      by_id_lem (two.Value id) i k again = by_len id i (le16_at book (at + 2)) refl k again
+      by_id_lem None i k again = never Unreadable k (λ z. cc)
+      by_id_lem (Some id) i k again = by_len id i (le16_at book (at + 2)) refl k again
 
   module _ (book : List ℕ) (e : found book ≡ it) where
-    scanned : (w : Field16) → from_bof book w ≡ it → (w ≡ two.Value 0x0809) × (scan_at book 0 ≡ it)
-    scanned two.Short k = never Unreadable k (λ z. cc)
-    scanned (two.Value id) k = by_test (eqb id 0x0809) _ _ k (λ t z. (ap two.Value (eqb-true id 0x0809 t), z)) (λ t z. never Unreadable z (λ y. cc))
+    scanned : (w : (Option ℕ)) → from_bof book w ≡ it → (w ≡ Some 0x0809) × (scan_at book 0 ≡ it)
+    scanned None k = never Unreadable k (λ z. cc)
+    scanned (Some id) k = by_test (eqb id 0x0809) _ _ k (λ t z. (ap Some (eqb-true id 0x0809 t), z)) (λ t z. never Unreadable z (λ y. cc))
 
-    pub starts : le16_at book 0 ≡ two.Value 0x0809
+    pub starts : le16_at book 0 ≡ Some 0x0809
     unfolding found
     starts = (scanned (le16_at book 0) e).0
 
@@ -257,13 +256,13 @@ has_body s f e =
       },
     )
 
-pub yes_starts : (s : List ℕ) (f : Facts) → look s ≡ Yes f → le16_at (take 1048576 s) 0 ≡ two.Value 0x0809
+pub yes_starts : (s : List ℕ) (f : Facts) → look s ≡ Yes f → le16_at (take 1048576 s) 0 ≡ Some 0x0809
 yes_starts s f e = let w = yes_finds s f e in starts w.start w.len (take 1048576 s) w.found
 
 same_body : (s b c : List ℕ) → LooksAt s b → LooksAt s c → b ≡ c
 same_body s b c p q =
     let place : p.at ≡ q.at = one_place (take 1048576 s) (suc (length (take 1048576 s))) 0 p.at q.at p.id q.id p.reached q.reached in
-    let lengths : two.Value p.len ≡ two.Value q.len = sym p.stated ∙ ap (λ (at : ℕ). le16_at (take 1048576 s) (at + 2)) place ∙ q.stated in
+    let lengths : Some p.len ≡ Some q.len = sym p.stated ∙ ap (λ (at : ℕ). le16_at (take 1048576 s) (at + 2)) place ∙ q.stated in
     let len : p.len ≡ q.len = cc in
     let bodies : take p.len (drop (p.at + 4) (take 1048576 s)) ≡ take q.len (drop (q.at + 4) (take 1048576 s)) = rw (place, len) in
     p.bytes ∙ bodies ∙ sym q.bytes

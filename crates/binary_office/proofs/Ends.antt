@@ -52,17 +52,23 @@ module _ (s : List ℕ) (at : ℕ) where
   pub nothing_ends : drop at s ≡ [] → AtEnd
   nothing_ends e = let l = left_over in let n = ap (λ (bs : List ℕ). length bs) e in past_end (omega arith)
 
+  pub zero_ends : length s < at + 4 → all_zero (drop at s) ≡ true → AtEnd
+  zero_ends h e =
+      record {
+        few = h;
+        zeros = λ o k.
+            let place : at + (o - at) ≡ o = omega arith in
+            ap (λ (n : ℕ). get_or s n 0) (sym place) ∙ sym (byte (o - at)) ∙ zero_bytes_lem (drop at s) e (o - at);
+      }
+
+  pub ends_zero : AtEnd → all_zero (drop at s) ≡ true
+  ends_zero a = bytes_zero (drop at s) (λ i. byte i ∙ a.zeros (at + i) (omega arith))
+
   pub padding_ends : is_padding (drop at s) ≡ true → AtEnd
   padding_ends e =
       let l = left_over in
       let most = within_to 1 padding_max (length (drop at s)) (and_left (within 1 padding_max (length (drop at s))) (all_zero (drop at s)) e) in
-      let all = and_right (within 1 padding_max (length (drop at s))) (all_zero (drop at s)) e in
-      record {
-        few = omega arith;
-        zeros = λ o k.
-            let place : at + (o - at) ≡ o = omega arith in
-            ap (λ (n : ℕ). get_or s n 0) (sym place) ∙ sym (byte (o - at)) ∙ zero_bytes_lem (drop at s) all (o - at);
-      }
+      zero_ends (omega arith) (and_right (within 1 padding_max (length (drop at s))) (all_zero (drop at s)) e)
 
   -- what it means that the walk is at its end, both ways
   pub ended_means : ended s at ≡ true → AtEnd
@@ -74,8 +80,7 @@ module _ (s : List ℕ) (at : ℕ) where
       let l = left_over in
       let f = a.few in
       let some : within 1 padding_max (length (drop at s)) ≡ true = within_yes 1 padding_max (length (drop at s)) (omega arith) (omega arith) in
-      let all : all_zero (drop at s) ≡ true = bytes_zero (drop at s) (λ i. byte i ∙ a.zeros (at + i) (omega arith)) in
-      rw (some, all)
+      rw (some, ends_zero a)
 
   pub means_ended : AtEnd → ended s at ≡ true
   unfolding ended

@@ -1,5 +1,6 @@
 -- Fields, and what stands at an offset, by the tests on the way: as the code answers them, and what each answer tells.
 -- Assumes nothing.
+use Rattle.std.specs.Prelude.{Some, None, Option}
 use mathlib.Core.Path.{◌≡◌, refl, sym, ap, ◌∙◌}
 use mathlib.Core.Bool.{Bool, true, false}
 use mathlib.Core.List.{List}
@@ -10,9 +11,6 @@ use lib.Seq.{get_or-take}
 use borrow.Author.Tests.{le-leb, lt-leb}
 use Rattle.laws.proofs.Choice.{stop, skip, either}
 use Rattle.word.specs.Word.{le32, from_le}
-use Rattle.binary_office.specs.declared.Field16.{Field16}
-use Rattle.binary_office.specs.declared.Field16.TheVariants as two
-use Rattle.binary_office.specs.declared.Field32.TheVariants as four
 use Rattle.binary_office.specs.declared.Step.{Step}
 use Rattle.binary_office.specs.declared.Step.TheVariants as step
 use Rattle.binary_office.specs.Fields.{le16_at, le32_at}
@@ -20,31 +18,31 @@ use Rattle.binary_office.specs.Walk.{ended, by_id, step_at}
 use Rattle.binary_office.proofs.Ends.{AtEnd, ended_means, means_ended, not_ended}
 
 module _ (s : List ℕ) (at : ℕ) where
-  pub le16_short : length s < at + 2 → two.Short ≡ le16_at s at
+  pub le16_short : length s < at + 2 → None ≡ le16_at s at
   unfolding le16_at
   le16_short h = skip _ (lt-leb (at + 2) (length s) h) refl
 
-  pub le16_value : (v : ℕ) → at + 2 ≤ length s → v ≡ get_or s at 0 + get_or s (at + 1) 0 * 2 ^ 8 → two.Value v ≡ le16_at s at
+  pub le16_value : (v : ℕ) → at + 2 ≤ length s → v ≡ get_or s at 0 + get_or s (at + 1) 0 * 2 ^ 8 → Some v ≡ le16_at s at
   unfolding le16_at
   le16_value v h e = rw e (stop _ (le-leb (at + 2) (length s) h))
 
   -- a field that is there lies within
-  pub le16_within : (v : ℕ) → two.Value v ≡ le16_at s at → at + 2 ≤ length s
+  pub le16_within : (v : ℕ) → Some v ≡ le16_at s at → at + 2 ≤ length s
   le16_within v e = either (at + 2) (length s) (λ h. h) (λ h. let z : ◌≡◌ {A = ℕ} 0 1 = cc (le16_short h) in omega arith)
 
-  pub le16_is : (v : ℕ) → two.Value v ≡ le16_at s at → v ≡ get_or s at 0 + get_or s (at + 1) 0 * 2 ^ 8
+  pub le16_is : (v : ℕ) → Some v ≡ le16_at s at → v ≡ get_or s at 0 + get_or s (at + 1) 0 * 2 ^ 8
   le16_is v e = let there = le16_value (get_or s at 0 + get_or s (at + 1) 0 * 2 ^ 8) (le16_within v e) refl in cc
 
   -- and one that is not there is cut off
-  pub le16_cut : two.Short ≡ le16_at s at → length s < at + 2
+  pub le16_cut : None ≡ le16_at s at → length s < at + 2
   le16_cut e =
       either (at + 2) (length s) (λ h. let v = le16_value (get_or s at 0 + get_or s (at + 1) 0 * 2 ^ 8) h refl in let z : ◌≡◌ {A = ℕ} 0 1 = cc in omega arith) (λ h. h)
 
-  pub le32_short : length s < at + 4 → four.Short ≡ le32_at s at
+  pub le32_short : length s < at + 4 → None ≡ le32_at s at
   unfolding le32_at
   le32_short h = skip _ (lt-leb (at + 4) (length s) h) refl
 
-  pub le32_value : (v : ℕ) → at + 4 ≤ length s → v ≡ from_le (get_or s at 0) (get_or s (at + 1) 0) (get_or s (at + 2) 0) (get_or s (at + 3) 0) → four.Value v ≡ le32_at s at
+  pub le32_value : (v : ℕ) → at + 4 ≤ length s → v ≡ from_le (get_or s at 0) (get_or s (at + 1) 0) (get_or s (at + 2) 0) (get_or s (at + 3) 0) → Some v ≡ le32_at s at
   unfolding le32_at le32
   le32_value v h e = rw e (stop _ (le-leb (at + 4) (length s) h))
 
@@ -59,22 +57,22 @@ module _ (s : List ℕ) (at : ℕ) where
     unfolding step_at
     go_on r e = skip _ (not_ended s at inside) e
 
-    step_no_id : two.Short ≡ le16_at s at → step.Fault at ≡ step_at s at
+    step_no_id : None ≡ le16_at s at → step.Fault at ≡ step_at s at
     step_no_id e = go_on (step.Fault at) (rw (← e))
 
-    step_no_len : (id : ℕ) → two.Value id ≡ le16_at s at → two.Short ≡ le16_at s (at + 2) → step.Fault at ≡ step_at s at
+    step_no_len : (id : ℕ) → Some id ≡ le16_at s at → None ≡ le16_at s (at + 2) → step.Fault at ≡ step_at s at
     step_no_len id e g = go_on (step.Fault at) (rw (← e, ← g))
 
     -- fewer than four bytes, and one of them is not zero
     pub step_short : length s < at + 4 → step.Fault at ≡ step_at s at
     step_short h = by_id_lem (le16_at s at) refl
       where
-        by_id_lem : (w : Field16) → w ≡ le16_at s at → step.Fault at ≡ step_at s at
-        by_id_lem two.Short e = step_no_id e
-        by_id_lem (two.Value id) e = step_no_len id e (le16_short s (at + 2) (omega arith))
+        by_id_lem : (w : (Option ℕ)) → w ≡ le16_at s at → step.Fault at ≡ step_at s at
+        by_id_lem None e = step_no_id e
+        by_id_lem (Some id) e = step_no_len id e (le16_short s (at + 2) (omega arith))
 
   -- a header that is there
-  module _ (id len : ℕ) (e : two.Value id ≡ le16_at s at) (g : two.Value len ≡ le16_at s (at + 2)) where
+  module _ (id len : ℕ) (e : Some id ≡ le16_at s at) (g : Some len ≡ le16_at s (at + 2)) where
     not_end : AtEnd s at → ⊥
     not_end a = let m = le16_within s (at + 2) len g in let f = a.few in omega arith
 
@@ -86,18 +84,18 @@ module _ (s : List ℕ) (at : ℕ) where
 
   -- a statement of what stands at an offset, by the tests on the way to it
   pub by_step : (P : Step → Type 0) → (AtEnd s at → P step.End) → P (step.Fault at)
-      → ((id len : ℕ) → two.Value id ≡ le16_at s at → two.Value len ≡ le16_at s (at + 2) → at + 4 + len ≤ length s → P (step.Record id len))
+      → ((id len : ℕ) → Some id ≡ le16_at s at → Some len ≡ le16_at s (at + 2) → at + 4 + len ≤ length s → P (step.Record id len))
       → P (step_at s at)
   by_step P ends faulty one = by_end (ended s at) refl
     where
-      by_len : (AtEnd s at → ⊥) → (id : ℕ) → two.Value id ≡ le16_at s at → (w : Field16) → w ≡ le16_at s (at + 2) → P (step_at s at)
-      by_len n id e two.Short g = rw (← (step_no_len n id e g)) faulty
-      by_len n id e (two.Value len) g =
+      by_len : (AtEnd s at → ⊥) → (id : ℕ) → Some id ≡ le16_at s at → (w : (Option ℕ)) → w ≡ le16_at s (at + 2) → P (step_at s at)
+      by_len n id e None g = rw (← (step_no_len n id e g)) faulty
+      by_len n id e (Some len) g =
           either (at + 4 + len) (length s) (λ m. rw (← (step_record id len e g m)) (one id len e g m)) (λ m. rw (← (step_past id len e g m)) faulty)
 
-      by_id_lem : (AtEnd s at → ⊥) → (w : Field16) → w ≡ le16_at s at → P (step_at s at)
-      by_id_lem n two.Short e = rw (← (step_no_id n e)) faulty
-      by_id_lem n (two.Value id) e = by_len n id e (le16_at s (at + 2)) refl
+      by_id_lem : (AtEnd s at → ⊥) → (w : (Option ℕ)) → w ≡ le16_at s at → P (step_at s at)
+      by_id_lem n None e = rw (← (step_no_id n e)) faulty
+      by_id_lem n (Some id) e = by_len n id e (le16_at s (at + 2)) refl
 
       by_end : (t : Bool) → ended s at ≡ t → P (step_at s at)
       by_end true e = let a = ended_means s at e in rw (← (step_end a)) (ends a)
@@ -119,10 +117,10 @@ module _ (s : List ℕ) (n at : ℕ) where
       let first = first_length in
       either (at + 2) (length s)
       (λ k.
-      sym (le16_value (take n s) at _ (omega arith) refl) ∙ ap two.Value (rw (byte at (omega arith), byte (at + 1) (omega arith))) ∙ le16_value s at _ k refl)
+      sym (le16_value (take n s) at _ (omega arith) refl) ∙ ap Some (rw (byte at (omega arith), byte (at + 1) (omega arith))) ∙ le16_value s at _ k refl)
       (λ k. sym (le16_short (take n s) at (omega arith)) ∙ le16_short s at k)
 
-  pub le16_beyond : n < at + 2 → two.Short ≡ le16_at (take n s) at
+  pub le16_beyond : n < at + 2 → None ≡ le16_at (take n s) at
   le16_beyond h = let first = first_length in le16_short (take n s) at (omega arith)
 
   pub le32_first : at + 4 ≤ n → le32_at (take n s) at ≡ le32_at s at
@@ -131,9 +129,9 @@ module _ (s : List ℕ) (n at : ℕ) where
       either (at + 4) (length s)
       (λ k.
       sym (le32_value (take n s) at _ (omega arith) refl)
-      ∙ ap four.Value (rw (byte at (omega arith), byte (at + 1) (omega arith), byte (at + 2) (omega arith), byte (at + 3) (omega arith)))
+      ∙ ap Some (rw (byte at (omega arith), byte (at + 1) (omega arith), byte (at + 2) (omega arith), byte (at + 3) (omega arith)))
       ∙ le32_value s at _ k refl)
       (λ k. sym (le32_short (take n s) at (omega arith)) ∙ le32_short s at k)
 
-  pub le32_beyond : n < at + 4 → four.Short ≡ le32_at (take n s) at
+  pub le32_beyond : n < at + 4 → None ≡ le32_at (take n s) at
   le32_beyond h = let first = first_length in le32_short (take n s) at (omega arith)

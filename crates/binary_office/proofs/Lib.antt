@@ -5,6 +5,7 @@ pub mod Headers
 pub mod KeySizes
 pub mod Locks
 pub mod Remainder
+pub mod Records
 pub mod Renamed
 pub mod SameLock
 pub mod Walks

@@ -1,10 +1,11 @@
 -- The lock's facts, the scan and what a look finds, by the tests on the way.
 -- Assumes nothing.
+use Rattle.std.specs.Prelude.{Some, None, Option}
 use mathlib.Core.Path.{◌≡◌, refl, sym, ap, ◌∙◌}
 use mathlib.Core.Bool.{true, false, not, ◌&&◌}
 use mathlib.Core.List.{List}
 use Prim.Native.Nat.{ℕ, zero, suc, ◌+◌, ◌-◌, ◌≤◌, ◌<◌, min}
-use native.Mathlib.Nat.{le_refl, sub-zero, zero-add}
+use native.Mathlib.Nat.{le_refl}
 use native.Mathlib.Omega.{arith}
 use lib.Dec.{eqb}
 use lib.ListN.{length, get_or, take, drop, length-take, length-drop}
@@ -12,14 +13,9 @@ use lib.Seq.{take_all, get_or-take, get_or-drop, ext_get_or}
 use borrow.Author.Tests.{eq-eqb, ne_eqb, le-leb, lt-leb}
 use Rattle.laws.specs.Choice.{pick, within}
 use Rattle.laws.proofs.Choice.{stop, skip, either, within_yes, within_high}
-use Rattle.binary_office.specs.declared.Field16.TheVariants as two
 use Rattle.binary_office.specs.declared.Version.{Version}
-use Rattle.binary_office.specs.declared.Version.TheVariants.{Pair, NoVersion}
-use Rattle.binary_office.specs.declared.KeySize.{KeySize}
-use Rattle.binary_office.specs.declared.KeySize.TheVariants.{Bits, NoSize}
 use Rattle.binary_office.specs.Fields.{le16_at, le32_at}
 use Rattle.binary_office.specs.Walk.{never_encrypted}
-use Rattle.binary_office.specs.declared.Field16.{Field16}
 use Rattle.binary_office.specs.declared.Finding.{Finding}
 use Rattle.binary_office.specs.declared.Finding.TheVariants.{Filepass, Other, Unreadable}
 use Rattle.binary_office.specs.declared.Verdict.{Verdict}
@@ -27,7 +23,7 @@ use Rattle.binary_office.specs.Look.{version_of, bits_of, bits_in, size_of, fact
 
 -- the key size that a header states: 0 is 40, 1 to 4096 is itself, above there is none
 module _ (k : ℕ) where
-  pub bits_zero : k ≡ 0 → Bits 40 ≡ bits_of k
+  pub bits_zero : k ≡ 0 → Some 40 ≡ bits_of k
   unfolding bits_of
   bits_zero z = stop _ (eq-eqb k 0 z)
 
@@ -35,33 +31,33 @@ module _ (k : ℕ) where
     least_one : (n : ℕ) → (n ≡ 0 → ⊥) → 1 ≤ n
     least_one n f = omega arith
 
-    pub bits_stated : k ≤ 4096 → Bits k ≡ bits_of k
+    pub bits_stated : k ≤ 4096 → Some k ≡ bits_of k
     unfolding bits_of
     bits_stated h = skip _ (ne_eqb k 0 other) (stop _ (within_yes 1 4096 k (least_one k other) h))
 
-    pub bits_above : 4096 < k → NoSize ≡ bits_of k
+    pub bits_above : 4096 < k → None ≡ bits_of k
     unfolding bits_of
     bits_above h = skip _ (ne_eqb k 0 other) (skip _ (within_high 1 4096 k h) refl)
 
 module _ (body : List ℕ) where
   -- the key size of a version
-  module _ (v : Version) (major minor : ℕ) (e : v ≡ Pair major minor) where
-    pub size_other : (within 2 4 major && eqb minor 2) ≡ false → NoSize ≡ size_of body v
+  module _ (v : (Option Version)) (major minor : ℕ) (e : v ≡ Some (record { major = major; minor = minor })) where
+    pub size_other : (within 2 4 major && eqb minor 2) ≡ false → None ≡ size_of body v
     size_other t = rw e (skip _ t refl)
 
-    pub size_in : (b : KeySize) → (within 2 4 major && eqb minor 2) ≡ true → b ≡ bits_in (le32_at body 30) → b ≡ size_of body v
+    pub size_in : (b : (Option ℕ)) → (within 2 4 major && eqb minor 2) ≡ true → b ≡ bits_in (le32_at body 30) → b ≡ size_of body v
     size_in b t h = rw e (h ∙ stop _ t)
 
   -- the facts, by the body's type
-  pub facts_short : two.Short ≡ le16_at body 0 → record { xor = false; version = NoVersion; key_size = NoSize } ≡ facts_of body
+  pub facts_short : None ≡ le16_at body 0 → record { xor = false; version = None; key_size = None } ≡ facts_of body
   unfolding facts_of
   facts_short g = rw (← g)
 
-  pub facts_xor : (t : ℕ) → two.Value t ≡ le16_at body 0 → t ≡ 0 → record { xor = true; version = NoVersion; key_size = NoSize } ≡ facts_of body
+  pub facts_xor : (t : ℕ) → Some t ≡ le16_at body 0 → t ≡ 0 → record { xor = true; version = None; key_size = None } ≡ facts_of body
   unfolding facts_of
   facts_xor t g h = rw (← g) (stop _ (eq-eqb t 0 h))
 
-  pub facts_other : (t : ℕ) (v : Version) (k : KeySize) → two.Value t ≡ le16_at body 0 → (t ≡ 0 → ⊥) → v ≡ version_of body → k ≡ size_of body v
+  pub facts_other : (t : ℕ) (v : (Option Version)) (k : (Option ℕ)) → Some t ≡ le16_at body 0 → (t ≡ 0 → ⊥) → v ≡ version_of body → k ≡ size_of body v
       → record { xor = false; version = v; key_size = k } ≡ facts_of body
   unfolding facts_of
   facts_other t v k g h e d = rw (← g) (skip _ (ne_eqb t 0 h) (rw (d, e)))
@@ -78,29 +74,29 @@ module _ (s : List ℕ) where
   enough (suc f) zero at h k l = absurd (no_fuel at h l)
   enough (suc f) (suc g) at h k l = by_id_lem (le16_at s at) (λ n m p q. enough f g n m p q)
     where
-      by_len : (id : ℕ) (w : Field16) → ((n : ℕ) → n ≤ length s → length s < f + n → length s < g + n → scan_from f s n ≡ scan_from g s n)
+      by_len : (id : ℕ) (w : (Option ℕ)) → ((n : ℕ) → n ≤ length s → length s < f + n → length s < g + n → scan_from f s n ≡ scan_from g s n)
           → scan_by_length s at id (scan_from f s) w ≡ scan_by_length s at id (scan_from g s) w
-      by_len id two.Short again = refl
-      by_len id (two.Value len) again =
+      by_len id None again = refl
+      by_len id (Some len) again =
           either (at + 4 + len) (length s)
           (λ m. ap (λ (v : Finding). judged s at id len (λ (n : ℕ). v)) (again (at + 4 + len) m (omega arith) (omega arith)))
           (λ m. rw (lt-leb (at + 4 + len) (length s) m, pick))
 
-      by_id_lem : (w : Field16) → ((n : ℕ) → n ≤ length s → length s < f + n → length s < g + n → scan_from f s n ≡ scan_from g s n)
+      by_id_lem : (w : (Option ℕ)) → ((n : ℕ) → n ≤ length s → length s < f + n → length s < g + n → scan_from f s n ≡ scan_from g s n)
           → scan_by_id s at (scan_from f s) w ≡ scan_by_id s at (scan_from g s) w
-      by_id_lem two.Short again = refl
-      by_id_lem (two.Value id) again = by_len id (le16_at s (at + 2)) again
+      by_id_lem None again = refl
+      by_id_lem (Some id) again = by_len id (le16_at s (at + 2)) again
 
   module _ (at : ℕ) where
-    pub scan_no_id : two.Short ≡ le16_at s at → Unreadable ≡ scan_at s at
+    pub scan_no_id : None ≡ le16_at s at → Unreadable ≡ scan_at s at
     unfolding scan_at scan_from
     scan_no_id e = rw (← e)
 
-    pub scan_no_len : (id : ℕ) → two.Value id ≡ le16_at s at → two.Short ≡ le16_at s (at + 2) → Unreadable ≡ scan_at s at
+    pub scan_no_len : (id : ℕ) → Some id ≡ le16_at s at → None ≡ le16_at s (at + 2) → Unreadable ≡ scan_at s at
     unfolding scan_at scan_from
     scan_no_len id e g = rw (← e, ← g)
 
-    module _ (id len : ℕ) (e : two.Value id ≡ le16_at s at) (g : two.Value len ≡ le16_at s (at + 2)) where
+    module _ (id len : ℕ) (e : Some id ≡ le16_at s at) (g : Some len ≡ le16_at s (at + 2)) where
       as_judged : (v : Finding) → v ≡ judged s at id len (scan_from (length s) s) → v ≡ scan_at s at
       unfolding scan_at scan_from
       as_judged v h = rw (← e, ← g) h
@@ -130,22 +126,11 @@ body_cut l start len n e h g =
     (λ m. let q : e - start ≡ len = omega arith in ap (λ (i : ℕ). take i d) q)
     (λ m. let q : e - start ≡ length d = omega arith in ap (λ (i : ℕ). take i d) q ∙ take_all (length d) d (le_refl (length d)) ∙ sym (take_all len d (omega arith)))
 
-pub book_cut : (l : List ℕ) (cap n : ℕ) → n ≡ min (length l) cap → take (n - 0) l ≡ take cap l
-book_cut l cap n h = body_cut l 0 cap n n (h ∙ ap (λ (k : ℕ). min k cap) (sym (sub-zero (length l)))) (sym (zero-add n))
-
--- an offset within such a book
-pub within_cut : (l : List ℕ) (n start : ℕ) → start ≤ length (take (n - 0) l) → start ≤ n
-within_cut l n start h = let size = length-take (n - 0) l in omega arith
-
--- the rest of such a book, from an offset on
-pub rest_cut : (l : List ℕ) (cap n start : ℕ) → n ≡ min (length l) cap → take (n - start) (drop start (take (n - 0) l)) ≡ drop start (take cap l)
-rest_cut l cap n start h =
-    let book = take cap l in
-    let short : length (drop start book) ≤ n - start =
-    let a = length-drop start book in
-    let b = length-take cap l in
-    omega arith in
-    ap (λ (b : List ℕ). take (n - start) (drop start b)) (book_cut l cap n h) ∙ take_all (n - start) (drop start book) short
+pub take_least : (l : List ℕ) (cap n : ℕ) → n ≡ min (length l) cap → take n l ≡ take cap l
+take_least l cap n h =
+    either cap (length l)
+    (λ m. let q : n ≡ cap = omega arith in ap (λ (i : ℕ). take i l) q)
+    (λ m. let q : n ≡ length l = omega arith in ap (λ (i : ℕ). take i l) q ∙ take_all (length l) l (le_refl (length l)) ∙ sym (take_all cap l (omega arith)))
 
 -- the part of a book that is cut itself, as the first bytes of the part of the whole
 pub part_cut : (l : List ℕ) (most start len : ℕ) → take len (drop start (take most l)) ≡ take (most - start) (take len (drop start l))
@@ -179,11 +164,11 @@ part_cut l most start len = ext_get_or 0 (take len (drop start (take most l))) (
 
 -- what a book that starts with BOF has
 module _ (book : List ℕ) where
-  pub found_short : two.Short ≡ le16_at book 0 → Unreadable ≡ found book
+  pub found_short : None ≡ le16_at book 0 → Unreadable ≡ found book
   unfolding found
   found_short e = rw (← e)
 
-  module _ (id : ℕ) (e : two.Value id ≡ le16_at book 0) where
+  module _ (id : ℕ) (e : Some id ≡ le16_at book 0) where
     pub found_scan : (v : Finding) → id ≡ 0x0809 → v ≡ scan_at book 0 → v ≡ found book
     unfolding found
     found_scan v h g = rw (← e) (g ∙ stop _ (eq-eqb id 0x0809 h))

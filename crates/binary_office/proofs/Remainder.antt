@@ -1,6 +1,7 @@
 -- How a walk ends is decided where its records end. A stream that has another's bytes up to there has the same records, and goes on from there as its own bytes
 -- say: at padding it ends, at four zeros it has one record more, and without its padding it is filled.
 -- Assumes nothing.
+use Rattle.std.specs.Prelude.{Some, None, Option}
 use mathlib.Core.Path.{◌≡◌, refl, sym, ap, ◌∙◌}
 use mathlib.Core.Bool.{Bool, true, false}
 use mathlib.Core.List.{List, [], ◌∷◌, ◌++◌, append-nil}
@@ -11,11 +12,9 @@ use lib.Seq.{get_or-append-add, get_or-take, get_or-drop, length-take-le, drop_a
 use Rattle.laws.specs.Choice.{pick}
 use Rattle.laws.proofs.Choice.{taken, left, either}
 use Rattle.binary_office.specs.declared.Step.TheVariants as step
-use Rattle.binary_office.specs.declared.WalkEnd.{WalkEnd}
-use Rattle.binary_office.specs.declared.WalkEnd.TheVariants as end
-use Rattle.binary_office.specs.declared.Field16.TheVariants as two
 use Rattle.binary_office.specs.Fields.{le16_at}
-use Rattle.binary_office.specs.Walk.{BiffRecord, Walk, behind, zero_bytes, ended, step_at, walk_at, walk, end_from, records_end, remainder}
+use Rattle.binary_office.specs.declared.BiffRecord.{BiffRecord}
+use Rattle.binary_office.specs.Walk.{Walk, behind, zero_bytes, ended, step_at, walk_at, walk, end_from, records_end, remainder}
 use Rattle.binary_office.specs.Remainder.{Ends, PaddedBy, Parts, Remainders}
 use Rattle.binary_office.proofs.Ends.{AtEnd, ended_means, means_ended, not_ended, nothing_ends, padding_ends, zeros_padding}
 use Rattle.binary_office.proofs.Headers.{le16_is, le16_value, step_end, step_record}
@@ -24,8 +23,8 @@ use Rattle.binary_office.proofs.Along.{records_on, ends_on, records_end_lem, rec
 
 module _ (s : List ℕ) where
   -- the end, by the test where the records end
-  abbrev by : ℕ → WalkEnd
-  by at = pick (ended s at) end.Clean (end.Fault at)
+  abbrev by : ℕ → Option ℕ
+  by at = pick (ended s at) None (Some at)
 
   at_fault : (at p : ℕ) → step_at s at ≡ step.Fault p → AtEnd s at → ⊥
   at_fault at p e a = let g = step_end s at a in let z : ◌≡◌ {A = ℕ} 0 1 = cc in no z
@@ -34,27 +33,27 @@ module _ (s : List ℕ) where
       no z = omega arith
 
   -- where the walk is at its end or at a fault
-  stopped : (at : ℕ) (w : WalkEnd) → w ≡ by at → (walk_at s at).ends ≡ w → (walk_at s at).records ≡ [] → (walk_at s at).ends ≡ by (end_from at (walk_at s at).records)
+  stopped : (at : ℕ) (w : (Option ℕ)) → w ≡ by at → (walk_at s at).fault ≡ w → (walk_at s at).records ≡ [] → (walk_at s at).fault ≡ by (end_from at (walk_at s at).records)
   stopped at w q e r = e ∙ q ∙ sym (ap (λ (rs : List BiffRecord). by (end_from at rs)) r)
 
-  decided : (walk s).ends ≡ by (records_end s)
+  decided : (walk s).fault ≡ by (records_end s)
   decided =
-      along s (λ (at : ℕ). (walk_at s at).ends ≡ by (end_from at (walk_at s at).records))
+      along s (λ (at : ℕ). (walk_at s at).fault ≡ by (end_from at (walk_at s at).records))
       (λ at e.
-      stopped at end.Clean (sym (taken end.Clean (end.Fault at) (means_ended s at (end_there s at e))))
-      (ap (λ (w : Walk). w.ends) (walk_end s at e)) (records_end_lem s at e))
+      stopped at None (sym (taken None (Some at) (means_ended s at (end_there s at e))))
+      (ap (λ (w : Walk). w.fault) (walk_end s at e)) (records_end_lem s at e))
       (λ at p e.
-      stopped at (end.Fault p) (ap end.Fault (fault_place s at p e) ∙ sym (left end.Clean (end.Fault at) (not_ended s at (at_fault at p e))))
-      (ap (λ (w : Walk). w.ends) (walk_fault s at p e)) (records_fault s at p e))
+      stopped at (Some p) (ap Some (fault_place s at p e) ∙ sym (left None (Some at) (not_ended s at (at_fault at p e))))
+      (ap (λ (w : Walk). w.fault) (walk_fault s at p e)) (records_fault s at p e))
       (λ at id len e again. ends_on s at id len e ∙ again ∙ sym (ap by (end_on s at id len e)))
       0
       (omega arith)
 
-  ends_clean : AtEnd s (records_end s) → (walk s).ends ≡ end.Clean
-  ends_clean a = decided ∙ taken end.Clean (end.Fault (records_end s)) (means_ended s (records_end s) a)
+  ends_clean : AtEnd s (records_end s) → (walk s).fault ≡ None
+  ends_clean a = decided ∙ taken None (Some (records_end s)) (means_ended s (records_end s) a)
 
-  ends_faulty : (AtEnd s (records_end s) → ⊥) → (walk s).ends ≡ end.Fault (records_end s)
-  ends_faulty f = decided ∙ left end.Clean (end.Fault (records_end s)) (not_ended s (records_end s) f)
+  ends_faulty : (AtEnd s (records_end s) → ⊥) → (walk s).fault ≡ Some (records_end s)
+  ends_faulty f = decided ∙ left None (Some (records_end s)) (not_ended s (records_end s) f)
 
   ends : Ends s
   ends =
@@ -92,9 +91,9 @@ module _ (s : List ℕ) (n : ℕ) where
 -- a stream that has another's bytes up to where its records end: the walk goes over the same records, and then as it goes on from there
 module _ (s t : List ℕ) (room : records_end s ≤ length t) (agree : (o : ℕ) → o < records_end s → get_or t o 0 ≡ get_or s o 0) where
   abbrev joined : List BiffRecord → Walk
-  joined rs = record { records = rs ++ (walk_at t (records_end s)).records; ends = (walk_at t (records_end s)).ends }
+  joined rs = record { records = rs ++ (walk_at t (records_end s)).records; fault = (walk_at t (records_end s)).fault }
 
-  field : (o v : ℕ) → o + 2 ≤ records_end s → two.Value v ≡ le16_at s o → two.Value v ≡ le16_at t o
+  field : (o v : ℕ) → o + 2 ≤ records_end s → Some v ≡ le16_at s o → Some v ≡ le16_at t o
   field o v h e = le16_value t o v (omega arith) (rw (agree o (omega arith), agree (o + 1) (omega arith)) (le16_is s o v e))
 
   same_step : (at id len : ℕ) → at + 4 + len ≤ records_end s → step_at s at ≡ step.Record id len → step_at t at ≡ step.Record id len
@@ -128,7 +127,7 @@ module _ (s t : List ℕ) (room : records_end s ≤ length t) (agree : (o : ℕ)
 
   -- where that is the end too
   module _ (stop : AtEnd t (records_end s)) where
-    rest_ends : walk_at t (records_end s) ≡ record { records = []; ends = end.Clean }
+    rest_ends : walk_at t (records_end s) ≡ record { records = []; fault = None }
     rest_ends = walk_end t (records_end s) (sym (step_end t (records_end s) stop))
 
     same_records : (walk t).records ≡ (walk s).records
@@ -137,8 +136,8 @@ module _ (s t : List ℕ) (room : records_end s ≤ length t) (agree : (o : ℕ)
         ∙ ap (λ (w : Walk). (walk s).records ++ w.records) rest_ends
         ∙ append-nil (walk s).records
 
-    same_end : (walk t).ends ≡ end.Clean
-    same_end = ap (λ (w : Walk). w.ends) same_walk ∙ ap (λ (w : Walk). w.ends) rest_ends
+    same_end : (walk t).fault ≡ None
+    same_end = ap (λ (w : Walk). w.fault) same_walk ∙ ap (λ (w : Walk). w.fault) rest_ends
 
 -- zeros behind a stream that its records fill
 module _ (s : List ℕ) (n : ℕ) (filled : remainder s ≡ []) where
@@ -185,7 +184,7 @@ four_zeros s filled =
     here : records_end s ≡ length s
     here = at_length s 4 filled
 
-    zero_field : (o : ℕ) → length s ≤ o → o + 2 ≤ length s + 4 → two.Value 0 ≡ le16_at t o
+    zero_field : (o : ℕ) → length s ≤ o → o + 2 ≤ length s + 4 → Some 0 ≡ le16_at t o
     zero_field o h k =
         let size = padded_length s 4 in
         le16_value t o 0 (omega arith)
@@ -203,13 +202,13 @@ four_zeros s filled =
         (sym (step_end t (length s + 4 + 0) (record { few = omega arith; zeros = λ o h. get_or-eq_default t 0 (omega arith) })))
 
 -- a stream that is walked to its end
-module _ (s : List ℕ) (clean : (walk s).ends ≡ end.Clean) where
+module _ (s : List ℕ) (clean : (walk s).fault ≡ None) where
   at_end : AtEnd s (records_end s)
   at_end = by_test (ended s (records_end s)) refl
     where
       by_test : (t : Bool) → ended s (records_end s) ≡ t → AtEnd s (records_end s)
       by_test true e = ended_means s (records_end s) e
-      by_test false e = let z : end.Clean ≡ end.Fault (records_end s) = sym clean ∙ decided s ∙ left end.Clean (end.Fault (records_end s)) e in absurd (no (cc))
+      by_test false e = let z : None ≡ Some (records_end s) = sym clean ∙ decided s ∙ left None (Some (records_end s)) e in absurd (no (cc))
         where
           no : ◌≡◌ {A = ℕ} 0 1 → ⊥
           no z = omega arith

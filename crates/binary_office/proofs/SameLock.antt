@@ -1,6 +1,8 @@
 -- Same lock. Equal bytes are one list, whose facts are the same, so that of two books with a FILEPASS the bodies alone decide; and what is true of equality is true of it.
 -- Assumes nothing.
-use mathlib.Core.Path.{◌≡◌, refl, sym, ap, ◌∙◌}
+use lib.Pointwise.{pointwise}
+use Rattle.std.specs.Prelude.{Some, None, Option}
+use mathlib.Core.Path.{ap₂, ◌≡◌, refl, sym, ap, ◌∙◌}
 use mathlib.Core.Bool.{Bool, true, false, ◌&&◌, beq}
 use mathlib.Core.List.{List, [], ◌∷◌}
 use Prim.Native.Nat.{ℕ, ◌+◌}
@@ -10,11 +12,7 @@ use lib.ListN.{take, drop, length-take}
 use lib.Seq.{take_all}
 use borrow.Author.Tests.{eq-eqb, ne_eqb, eqb-true}
 use Rattle.laws.proofs.Choice.{same_or, and_left, and_right}
-use Rattle.binary_office.specs.declared.Field32.TheVariants as four
 use Rattle.binary_office.specs.declared.Version.{Version}
-use Rattle.binary_office.specs.declared.Version.TheVariants.{Pair, NoVersion}
-use Rattle.binary_office.specs.declared.KeySize.{KeySize}
-use Rattle.binary_office.specs.declared.KeySize.TheVariants.{Bits, NoSize}
 use Rattle.binary_office.specs.declared.Facts.{Facts}
 use Rattle.binary_office.specs.declared.Finding.{Finding}
 use Rattle.binary_office.specs.declared.Finding.TheVariants.{Filepass, Other, Unreadable}
@@ -44,6 +42,14 @@ bytes_self (a ∷ x) = rw (eq-eqb a a refl, bytes_self x)
 pub equal_bytes : (x y : List ℕ) → x ≡ y → same_bytes x y ≡ true
 equal_bytes x y e = ap (same_bytes x) (sym e) ∙ bytes_self x
 
+-- as the code asks it
+pub bytes_asked : (x y : List ℕ) → pointwise eqb x y ≡ same_bytes x y
+unfolding same_bytes
+bytes_asked [] [] = refl
+bytes_asked [] (y ∷ ys) = refl
+bytes_asked (x ∷ xs) [] = refl
+bytes_asked (x ∷ xs) (y ∷ ys) = ap (λ (t : Bool). eqb x y && t) (bytes_asked xs ys)
+
 -- a test that does not hold fails
 refuted : (t : Bool) → (t ≡ true → ⊥) → t ≡ false
 refuted true f = absurd (f refl)
@@ -62,17 +68,17 @@ beq_sym false false = refl
 eqb_sym : (a b : ℕ) → eqb a b ≡ eqb b a
 eqb_sym a b = same_or a b (λ e. rw e) (λ e. ne_eqb a b e ∙ sym (ne_eqb b a (λ g. e (sym g))))
 
-version_sym : (v w : Version) → same_version v w ≡ same_version w v
-version_sym NoVersion NoVersion = refl
-version_sym NoVersion (Pair a b) = refl
-version_sym (Pair a b) NoVersion = refl
-version_sym (Pair a b) (Pair c d) = rw (eqb_sym a c, eqb_sym b d)
+version_sym : (v w : (Option Version)) → same_version v w ≡ same_version w v
+version_sym None None = refl
+version_sym None (Some w) = refl
+version_sym (Some v) None = refl
+version_sym (Some v) (Some w) = rw (eqb_sym v.major w.major, eqb_sym v.minor w.minor)
 
-size_sym : (v w : KeySize) → same_size v w ≡ same_size w v
-size_sym NoSize NoSize = refl
-size_sym NoSize (Bits b) = refl
-size_sym (Bits a) NoSize = refl
-size_sym (Bits a) (Bits b) = eqb_sym a b
+size_sym : (v w : (Option ℕ)) → same_size v w ≡ same_size w v
+size_sym None None = refl
+size_sym None (Some b) = refl
+size_sym (Some a) None = refl
+size_sym (Some a) (Some b) = eqb_sym a b
 
 facts_sym : (f g : Facts) → same_facts f g ≡ same_facts g f
 facts_sym f g = rw (beq_sym f.xor g.xor, version_sym f.version g.version, size_sym f.key_size g.key_size)
@@ -96,13 +102,13 @@ beq_self : (a : Bool) → beq a a ≡ true
 beq_self true = refl
 beq_self false = refl
 
-version_self : (v : Version) → same_version v v ≡ true
-version_self NoVersion = refl
-version_self (Pair a b) = rw (eq-eqb a a refl, eq-eqb b b refl)
+version_self : (v : (Option Version)) → same_version v v ≡ true
+version_self None = refl
+version_self (Some v) = rw (eq-eqb v.major v.major refl, eq-eqb v.minor v.minor refl)
 
-size_self : (k : KeySize) → same_size k k ≡ true
-size_self NoSize = refl
-size_self (Bits a) = eq-eqb a a refl
+size_self : (k : (Option ℕ)) → same_size k k ≡ true
+size_self None = refl
+size_self (Some a) = eq-eqb a a refl
 
 facts_self : (f : Facts) → same_facts f f ≡ true
 facts_self f = rw (beq_self f.xor, version_self f.version, size_self f.key_size)
@@ -123,17 +129,19 @@ beq_equal true false e = let z : false ≡ true = e in impossible (cc)
 beq_equal false true e = let z : false ≡ true = e in impossible (cc)
 beq_equal false false e = refl
 
-version_equal : (v w : Version) → same_version v w ≡ true → v ≡ w
-version_equal NoVersion NoVersion e = refl
-version_equal NoVersion (Pair a b) e = let z : false ≡ true = e in impossible (cc)
-version_equal (Pair a b) NoVersion e = let z : false ≡ true = e in impossible (cc)
-version_equal (Pair a b) (Pair c d) e = rw (eqb-true a c (and_left (eqb a c) (eqb b d) e), eqb-true b d (and_right (eqb a c) (eqb b d) e))
+version_equal : (v w : (Option Version)) → same_version v w ≡ true → v ≡ w
+version_equal None None e = refl
+version_equal None (Some w) e = let z : false ≡ true = e in impossible (cc)
+version_equal (Some v) None e = let z : false ≡ true = e in impossible (cc)
+version_equal (Some v) (Some w) e = let majors = eqb-true v.major w.major (and_left (eqb v.major w.major) (eqb v.minor w.minor) e) in
+    let minors = eqb-true v.minor w.minor (and_right (eqb v.major w.major) (eqb v.minor w.minor) e) in
+    ap₂ (λ (a b : ℕ). Some (record { major = a; minor = b })) majors minors
 
-size_equal : (v w : KeySize) → same_size v w ≡ true → v ≡ w
-size_equal NoSize NoSize e = refl
-size_equal NoSize (Bits b) e = let z : false ≡ true = e in impossible (cc)
-size_equal (Bits a) NoSize e = let z : false ≡ true = e in impossible (cc)
-size_equal (Bits a) (Bits b) e = rw (eqb-true a b e)
+size_equal : (v w : (Option ℕ)) → same_size v w ≡ true → v ≡ w
+size_equal None None e = refl
+size_equal None (Some b) e = let z : false ≡ true = e in impossible (cc)
+size_equal (Some a) None e = let z : false ≡ true = e in impossible (cc)
+size_equal (Some a) (Some b) e = rw (eqb-true a b e)
 
 facts_equal : (f g : Facts) → same_facts f g ≡ true → f ≡ g
 facts_equal f g e =
@@ -145,8 +153,8 @@ facts_equal f g e =
     let v = version_equal f.version g.version (and_right marks versions both) in
     let k = size_equal f.key_size g.key_size (and_right (marks && versions) sizes e) in
     ap (λ (b : Bool). record { xor = b; version = f.version; key_size = f.key_size }) x
-    ∙ ap (λ (w : Version). record { xor = g.xor; version = w; key_size = f.key_size }) v
-    ∙ ap (λ (n : KeySize). record { xor = g.xor; version = g.version; key_size = n }) k
+    ∙ ap (λ (w : (Option Version)). record { xor = g.xor; version = w; key_size = f.key_size }) v
+    ∙ ap (λ (n : (Option ℕ)). record { xor = g.xor; version = g.version; key_size = n }) k
 
 agree_both : (s t : List ℕ) → facts_agree s t ≡ true → (f : Facts) × (look s ≡ Yes f) × (look t ≡ Yes f)
 unfolding facts_agree
@@ -236,10 +244,10 @@ module _ (s t b c : List ℕ) (p : LooksAt s b) (q : LooksAt t c) where
   only_equal : same_lock s t ≡ true → b ≡ c
   only_equal e = sym (body_read s b p) ∙ shared_body s t e ∙ body_read t c q
 
-  zero_not_forty : le32_at b 30 ≡ four.Value 0 → le32_at c 30 ≡ four.Value 40 → same_lock s t ≡ false
+  zero_not_forty : le32_at b 30 ≡ Some 0 → le32_at c 30 ≡ Some 40 → same_lock s t ≡ false
   zero_not_forty e g = refuted (same_lock s t) (λ h. no (sym e ∙ ap (λ (l : List ℕ). le32_at l 30) (only_equal h) ∙ g))
     where
-      no : four.Value 0 ≡ four.Value 40 → ⊥
+      no : ◌≡◌ {A = Option ℕ} (Some 0) (Some 40) → ⊥
       no h = let z : ◌≡◌ {A = ℕ} 0 40 = cc in omega arith
 
   two_of : TwoBodies s t b c

@@ -1,17 +1,10 @@
 -- Look of document 01 ("Look: is the book locked"), with key size 0 as document 02 has it (T-03).
 -- Assumes nothing.
-use Rattle.std.specs.Prelude.{ℕ, zero, suc, ◌+◌, true, false, not, ◌&&◌, List, eqb, leb, length, take, drop}
+use Rattle.std.specs.Prelude.{ℕ, zero, suc, ◌+◌, true, false, not, ◌&&◌, List, eqb, leb, length, take, drop, Some, None, Option}
 use Rattle.laws.specs.Choice.{pick, within}
 use Rattle.binary_office.specs.Fields.{le16_at, le32_at}
 use Rattle.binary_office.specs.Walk.{never_encrypted}
-use Rattle.binary_office.specs.declared.Field16.{Field16}
-use Rattle.binary_office.specs.declared.Field16.TheVariants as two
-use Rattle.binary_office.specs.declared.Field32.{Field32}
-use Rattle.binary_office.specs.declared.Field32.TheVariants as four
 use Rattle.binary_office.specs.declared.Version.{Version}
-use Rattle.binary_office.specs.declared.Version.TheVariants.{Pair, NoVersion}
-use Rattle.binary_office.specs.declared.KeySize.{KeySize}
-use Rattle.binary_office.specs.declared.KeySize.TheVariants.{Bits, NoSize}
 use Rattle.binary_office.specs.declared.Facts.{Facts}
 use Rattle.binary_office.specs.declared.Finding.{Finding}
 use Rattle.binary_office.specs.declared.Finding.TheVariants.{Filepass, Other, Unreadable}
@@ -19,31 +12,31 @@ use Rattle.binary_office.specs.declared.Verdict.{Verdict}
 use Rattle.binary_office.specs.declared.Verdict.TheVariants.{Yes, No, Unknown}
 
 -- the version pair at body bytes 2 to 5, if present
-abbrev pub pair_of : Field16 → Field16 → Version
-pair_of two.Short minor = NoVersion
-pair_of (two.Value major) two.Short = NoVersion
-pair_of (two.Value major) (two.Value minor) = Pair major minor
+abbrev pub pair_of : Option ℕ → Option ℕ → Option Version
+pair_of None minor = None
+pair_of (Some major) None = None
+pair_of (Some major) (Some minor) = Some (record { major = major; minor = minor })
 
-unfoldable pub version_of : List ℕ → Version
+unfoldable pub version_of : List ℕ → Option Version
 version_of body = pair_of (le16_at body 2) (le16_at body 4)
 
 -- the four-byte key size at body byte 30, for major 2 to 4 with minor 2: 40 if it is 0 (document 02, T-03, by MS-OFFCRYPTO 2.3.5.1), itself if it is 1 to 4096
-unfoldable pub bits_of : ℕ → KeySize
-bits_of k = pick (eqb k 0) (Bits 40) (pick (within 1 4096 k) (Bits k) NoSize)
+unfoldable pub bits_of : ℕ → Option ℕ
+bits_of k = pick (eqb k 0) (Some 40) (pick (within 1 4096 k) (Some k) None)
 
-abbrev pub bits_in : Field32 → KeySize
-bits_in four.Short = NoSize
-bits_in (four.Value k) = bits_of k
+abbrev pub bits_in : Option ℕ → Option ℕ
+bits_in None = None
+bits_in (Some k) = bits_of k
 
-abbrev pub size_of : List ℕ → Version → KeySize
-size_of body NoVersion = NoSize
-size_of body (Pair major minor) = pick (within 2 4 major && eqb minor 2) (bits_in (le32_at body 30)) NoSize
+abbrev pub size_of : List ℕ → Option Version → Option ℕ
+size_of body None = None
+size_of body (Some version) = pick (within 2 4 version.major && eqb version.minor 2) (bits_in (le32_at body 30)) None
 
 -- body type 0 is XOR; any other type gives the version and the key size; missing facts are none
-abbrev pub by_type : List ℕ → Field16 → Facts
-by_type body two.Short = record { xor = false; version = NoVersion; key_size = NoSize }
-by_type body (two.Value t) =
-    pick (eqb t 0) (record { xor = true; version = NoVersion; key_size = NoSize })
+abbrev pub by_type : List ℕ → Option ℕ → Facts
+by_type body None = record { xor = false; version = None; key_size = None }
+by_type body (Some t) =
+    pick (eqb t 0) (record { xor = true; version = None; key_size = None })
     (record { xor = false; version = version_of body; key_size = size_of body (version_of body) })
 
 unfoldable pub facts_of : List ℕ → Facts
@@ -58,13 +51,13 @@ judged s at id len on =
     (pick (leb (at + 4 + len) (length s)) (on (at + 4 + len))
     Unreadable))
 
-abbrev pub scan_by_length : List ℕ → ℕ → ℕ → (ℕ → Finding) → Field16 → Finding
-scan_by_length s at id on two.Short = Unreadable
-scan_by_length s at id on (two.Value len) = judged s at id len on
+abbrev pub scan_by_length : List ℕ → ℕ → ℕ → (ℕ → Finding) → Option ℕ → Finding
+scan_by_length s at id on None = Unreadable
+scan_by_length s at id on (Some len) = judged s at id len on
 
-abbrev pub scan_by_id : List ℕ → ℕ → (ℕ → Finding) → Field16 → Finding
-scan_by_id s at on two.Short = Unreadable
-scan_by_id s at on (two.Value id) = scan_by_length s at id on (le16_at s (at + 2))
+abbrev pub scan_by_id : List ℕ → ℕ → (ℕ → Finding) → Option ℕ → Finding
+scan_by_id s at on None = Unreadable
+scan_by_id s at on (Some id) = scan_by_length s at id on (le16_at s (at + 2))
 
 -- the first argument bounds the number of headers
 unfoldable pub scan_from : ℕ → List ℕ → ℕ → Finding
@@ -75,9 +68,9 @@ unfoldable pub scan_at : List ℕ → ℕ → Finding
 scan_at s at = scan_from (suc (length s)) s at
 
 -- the first two bytes must be BOF, else unknown
-abbrev pub from_bof : List ℕ → Field16 → Finding
-from_bof s two.Short = Unreadable
-from_bof s (two.Value id) = pick (eqb id 0x0809) (scan_at s 0) Unreadable
+abbrev pub from_bof : List ℕ → Option ℕ → Finding
+from_bof s None = Unreadable
+from_bof s (Some id) = pick (eqb id 0x0809) (scan_at s 0) Unreadable
 
 unfoldable pub found : (book : List ℕ) → Finding
 found book = from_bof book (le16_at book 0)

@@ -1,12 +1,9 @@
 -- Same lock of document 01 ("Look: is the book locked"), and as document 02 has it (T-08), which adds the FILEPASS bodies.
 -- Assumes nothing.
-use Rattle.std.specs.Prelude.{ℕ, Bool, true, false, ◌&&◌, List, [], ◌∷◌, eqb, take, drop}
+use Rattle.std.specs.Prelude.{ℕ, Bool, true, false, ◌&&◌, List, [], ◌∷◌, eqb, take, drop, Some, None, Option}
 use Rattle.std.specs.Bool.{beq}
 use Rattle.binary_office.specs.Look.{found, capped, look}
 use Rattle.binary_office.specs.declared.Version.{Version}
-use Rattle.binary_office.specs.declared.Version.TheVariants.{Pair, NoVersion}
-use Rattle.binary_office.specs.declared.KeySize.{KeySize}
-use Rattle.binary_office.specs.declared.KeySize.TheVariants.{Bits, NoSize}
 use Rattle.binary_office.specs.declared.Facts.{Facts}
 use Rattle.binary_office.specs.declared.Finding.{Finding}
 use Rattle.binary_office.specs.declared.Finding.TheVariants.{Filepass, Other, Unreadable}
@@ -14,17 +11,17 @@ use Rattle.binary_office.specs.declared.Verdict.{Verdict}
 use Rattle.binary_office.specs.declared.Verdict.TheVariants.{Yes, No, Unknown}
 
 -- "true when both looks say yes and their XOR mark, version and key size agree"
-abbrev pub same_version : Version → Version → Bool
-same_version NoVersion NoVersion = true
-same_version NoVersion (Pair a b) = false
-same_version (Pair a b) NoVersion = false
-same_version (Pair a b) (Pair c d) = eqb a c && eqb b d
+abbrev pub same_version : (Option Version) → Option Version → Bool
+same_version None None = true
+same_version None (Some w) = false
+same_version (Some v) None = false
+same_version (Some v) (Some w) = eqb v.major w.major && eqb v.minor w.minor
 
-abbrev pub same_size : KeySize → KeySize → Bool
-same_size NoSize NoSize = true
-same_size NoSize (Bits b) = false
-same_size (Bits a) NoSize = false
-same_size (Bits a) (Bits b) = eqb a b
+abbrev pub same_size : Option ℕ → Option ℕ → Bool
+same_size None None = true
+same_size None (Some b) = false
+same_size (Some a) None = false
+same_size (Some a) (Some b) = eqb a b
 
 abbrev pub same_facts : Facts → Facts → Bool
 same_facts f g = beq f.xor g.xor && same_version f.version g.version && same_size f.key_size g.key_size

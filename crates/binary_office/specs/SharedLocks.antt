@@ -1,8 +1,6 @@
 -- Document 02, T-08: what Same lock says of two streams, by the FILEPASS bodies that their looks read, and beside Same lock of document 01 (`facts_agree`).
 -- Assumes nothing.
-use Rattle.std.specs.Prelude.{◌≡◌, ℕ, true, false, List, take}
-use Rattle.binary_office.specs.declared.Field32.TheVariants as four
-use Rattle.binary_office.specs.declared.Version.TheVariants.{Pair}
+use Rattle.std.specs.Prelude.{◌≡◌, ℕ, true, false, List, take, Some}
 use Rattle.binary_office.specs.declared.Facts.{Facts}
 use Rattle.binary_office.specs.declared.Verdict.TheVariants.{Yes}
 use Rattle.binary_office.specs.Fields.{le32_at}
@@ -17,8 +15,8 @@ pub record TwoBodies (s t b c : List ℕ) : Type 0 where
   pub only_equal : same_lock s t ≡ true → b ≡ c
   -- "key sizes 0 and 40 part again", of any two versions and in both orders
   pub sizes_part : (f g : Facts) (major minor other_major other_minor : ℕ)
-      → look s ≡ Yes f → f.version ≡ Pair major minor → look t ≡ Yes g → g.version ≡ Pair other_major other_minor
-      → le32_at b 30 ≡ four.Value 0 → le32_at c 30 ≡ four.Value 40
+      → look s ≡ Yes f → f.version ≡ Some (record { major = major; minor = minor }) → look t ≡ Yes g → g.version ≡ Some (record { major = other_major; minor = other_minor })
+      → le32_at b 30 ≡ Some 0 → le32_at c 30 ≡ Some 40
       → (same_lock s t ≡ false) × (same_lock t s ≡ false)
 
 pub record SharedLocks : Type 0 where

@@ -1,14 +1,11 @@
 -- The record walk of document 01 ("The walk and its listing") and document 02 (T-05): MS-XLS 2.1.4. A record is an id of two bytes, a length of two bytes, and a body.
 -- Assumes nothing.
-use Rattle.std.specs.Prelude.{ℕ, zero, suc, ◌+◌, min, Bool, true, ◌&&◌, ◌||◌, List, [], ◌∷◌, eqb, leb, length, drop, replicate}
+use Rattle.std.specs.Prelude.{ℕ, zero, suc, ◌+◌, min, Bool, true, ◌&&◌, ◌||◌, List, [], ◌∷◌, eqb, leb, length, drop, replicate, Some, None, Option}
 use Rattle.laws.specs.Choice.{pick, within}
 use Rattle.binary_office.specs.Fields.{le16_at}
-use Rattle.binary_office.specs.declared.Field16.{Field16}
-use Rattle.binary_office.specs.declared.Field16.TheVariants as two
+use Rattle.binary_office.specs.declared.BiffRecord.{BiffRecord}
 use Rattle.binary_office.specs.declared.Step.{Step}
 use Rattle.binary_office.specs.declared.Step.TheVariants as step
-use Rattle.binary_office.specs.declared.WalkEnd.{WalkEnd}
-use Rattle.binary_office.specs.declared.WalkEnd.TheVariants as end
 use Rattle.binary_office.specs.declared.Walked.{Walked}
 
 -- so many zero bytes, and whether bytes are that
@@ -32,13 +29,13 @@ unfoldable pub ended : List ℕ → ℕ → Bool
 ended s at = leb (length s) at || is_padding (drop at s)
 
 -- a header cut short leaves the walk before its length is used; the fault's place is the header's offset
-abbrev pub by_length : List ℕ → ℕ → ℕ → Field16 → Step
-by_length s at id two.Short = step.Fault at
-by_length s at id (two.Value len) = pick (leb (at + 4 + len) (length s)) (step.Record id len) (step.Fault at)
+abbrev pub by_length : List ℕ → ℕ → ℕ → Option ℕ → Step
+by_length s at id None = step.Fault at
+by_length s at id (Some len) = pick (leb (at + 4 + len) (length s)) (step.Record id len) (step.Fault at)
 
-abbrev pub by_id : List ℕ → ℕ → Field16 → Step
-by_id s at two.Short = step.Fault at
-by_id s at (two.Value id) = by_length s at id (le16_at s (at + 2))
+abbrev pub by_id : List ℕ → ℕ → Option ℕ → Step
+by_id s at None = step.Fault at
+by_id s at (Some id) = by_length s at id (le16_at s (at + 2))
 
 -- what stands at an offset: a record, by its id and length; a fault; the end
 unfoldable pub step_at : List ℕ → ℕ → Step
@@ -53,27 +50,21 @@ next_of at (step.Record id len) = at + 4 + len
 abbrev pub next_at : List ℕ → ℕ → ℕ
 next_at s at = next_of at (step_at s at)
 
--- a record of the walk: the offset of its header, its id and its length
-pub record BiffRecord : Type 0 where
-  pub at : ℕ
-  pub id : ℕ
-  pub len : ℕ
-
 -- the records in order, and how the walk ends
 pub record Walk : Type 0 where
   pub records : List BiffRecord
-  pub ends : WalkEnd
+  pub fault : Option ℕ
 
 abbrev pub behind : BiffRecord → Walk → Walk
-behind r w = record { records = r ∷ w.records; ends = w.ends }
+behind r w = record { records = r ∷ w.records; fault = w.fault }
 
 -- the walk from an offset on; the first argument bounds the number of records
 unfoldable pub walk_from : ℕ → List ℕ → ℕ → Walk
-walk_from zero s at = record { records = []; ends = end.Fault at }
+walk_from zero s at = record { records = []; fault = Some at }
 walk_from (suc f) s at =
     elim (step_at s at) [
-      | step.End ↦ record { records = []; ends = end.Clean }
-      | step.Fault p ↦ record { records = []; ends = end.Fault p }
+      | step.End ↦ record { records = []; fault = None }
+      | step.Fault p ↦ record { records = []; fault = Some p }
       | step.Record id len ↦ behind (record { at = at; id = id; len = len }) (walk_from f s (at + 4 + len))
     ]
 
@@ -98,7 +89,7 @@ remainder s = drop (records_end s) s
 
 -- what the code tells of a walk: how many records, and how it ends
 abbrev pub walked_of : Walk → Walked
-walked_of w = record { records = length w.records; end = w.ends }
+walked_of w = record { records = length w.records; fault = w.fault }
 
 -- the seven ids whose bodies are never enciphered: MS-XLS 2.2.10
 abbrev pub never_encrypted : ℕ → Bool

@@ -1,27 +1,26 @@
 -- What the functions over a schedule answer: the digest of a family, the key of a block and its keystream, the check of a verifier.
 -- Assumes nothing.
+use Rattle.std.specs.Prelude.{Some}
 use mathlib.Core.Path.{◌≡◌, refl, sym, ap, ◌∙◌}
-use mathlib.Core.Bool.{Bool, true, false, ◌&&◌}
+use mathlib.Core.Bool.{Bool, true, ◌&&◌}
 use mathlib.Core.List.{List, [], ◌∷◌, ◌++◌, append-nil}
 use Prim.Native.Nat.{ℕ, zero, suc, ◌+◌, ◌-◌, ◌≤◌, ◌<◌, min}
 use native.Mathlib.Nat.{le_refl}
 use native.Mathlib.Omega.{arith}
 use lib.Bits.{bit_xor}
 use lib.ListN.{length, get_or, take, drop, replicate, length-append}
-use lib.Seq.{take-append-le, take_all, length-take-le}
+use lib.Seq.{take-append-le, take_all}
 use Rattle.laws.specs.Choice.{pick, within}
 use Rattle.laws.specs.Offsets.{tabulate}
-use Rattle.laws.proofs.Choice.{taken, skip, stop, within_yes}
+use Rattle.laws.proofs.Choice.{taken, within_yes}
 use Rattle.laws.proofs.Offsets.{get_d_tabulate}
 use Rattle.sensitive.specs.declared.DerivedKey.{DerivedKey}
 use Rattle.sensitive.specs.Derived.{derived}
 use Rattle.sha_1.specs.Sha1.{sha1}
 use Rattle.md_5.specs.Md5.{md5}
 use Rattle.rc4.specs.declared.Keystream.{Keystream}
-use Rattle.rc4.specs.declared.Made.{Made}
 use Rattle.rc4.specs.Rc4.{keyed, made, after, byte_from, keystream_byte, Applies, enciphered, enciphered_halves}
 use Rattle.rc4.proofs.Table.{made_keyed, after_none, byte_resumed}
-use Rattle.password_digest.specs.Digest.{sha1_of, md5_of, fits, Digests}
 use Rattle.rc4_office97.specs.Keys as office97
 use Rattle.rc4_office97.proofs.Laws as laws97
 use Rattle.rc4_cryptoapi.specs.Keys as cryptoapi
@@ -29,29 +28,7 @@ use Rattle.rc4_cryptoapi.proofs.Laws as lawsApi
 use Rattle.block_keys.specs.declared.Kind.{Kind}
 use Rattle.block_keys.specs.declared.Kind.TheVariants.{Office97, CryptoApi}
 use Rattle.block_keys.specs.declared.Schedule.{Schedule}
-use Rattle.block_keys.specs.declared.Scheduled.{Scheduled}
 use Rattle.block_keys.specs.BlockKeys.{key_by, block_key, agree, under, digest_by, digest_len, verified, encrypted_verifier_hash}
-use Rattle.block_keys.specs.Lock.{Schedules}
-
--- a digest that is made from another, and none from none
-module _ (digest password scratch bytes scratch' : List ℕ) (size : ℕ) (ok : Bool) (d : Digests digest size password scratch ok bytes scratch') where
-  pub digests_none : (other : List ℕ) (n : ℕ) → ok ≡ false → Digests other n password scratch false (replicate n 0) scratch'
-  digests_none other n e = let f : fits password scratch ≡ false = sym d.told ∙ e in record { told = sym f; digested = skip other f refl; wiped = d.wiped }
-
-  pub digests_some : (f : List ℕ → List ℕ) (n : ℕ) (bytes' : List ℕ) → ok ≡ true → bytes' ≡ f bytes → Digests (f digest) n password scratch true bytes' scratch'
-  digests_some f n bytes' e g =
-      let t : fits password scratch ≡ true = sym d.told ∙ e in
-      record { told = sym t; digested = g ∙ ap f (d.digested ∙ taken digest (replicate size 0) t) ∙ stop (replicate n 0) t; wiped = d.wiped }
-
--- the schedule of a family
-module _ (k : Kind) (bits : ℕ) (salt password scratch scratch' bytes : List ℕ) (ok : Bool) (r : Scheduled) where
-  pub schedules_97 : k ≡ Office97 → Digests (office97.truncated (md5_of password) salt ++ replicate 15 0) 20 password scratch ok bytes scratch'
-      → r ≡ record { ok = ok; schedule = record { kind = Office97; key_bits = bits; digest = bytes } } → Schedules k bits salt password scratch r scratch'
-  schedules_97 e d g = rw g (record { kind = sym e; bits = refl; digest = rw e d })
-
-  pub schedules_api : k ≡ CryptoApi → Digests (sha1_of salt password) 20 password scratch ok bytes scratch'
-      → r ≡ record { ok = ok; schedule = record { kind = CryptoApi; key_bits = bits; digest = bytes } } → Schedules k bits salt password scratch r scratch'
-  schedules_api e d g = rw g (record { kind = sym e; bits = refl; digest = rw e d })
 
 -- the key of a block
 module _ (s : Schedule) (block : ℕ) where
@@ -78,47 +55,33 @@ module _ (key : List ℕ) where
   pub key_room : (derived key).len ≤ length (derived key).bytes
   key_room = let l = length-append key (replicate (16 - length key) 0) in omega arith
 
-  pub key_stream : 5 ≤ length key → length key ≤ 16 → (made key).keystream ≡ keyed key
-  unfolding keyed
-  key_stream h k = ap (λ (m : Made). m.keystream) (sym (made_keyed key h k))
+-- the key of a block as a function hands it over
+module _ (s : Schedule) (block : ℕ) where
+  pub slice_is : (d : DerivedKey) → d ≡ derived (block_key s block) → take d.len d.bytes ≡ block_key s block
+  slice_is d e = ap (λ (k : DerivedKey). take k.len k.bytes) e ∙ key_bytes (block_key s block)
 
--- the key of a block as a function hands it over: bytes, and how many of them
-module _ (s : Schedule) (block : ℕ) (d : DerivedKey) (e : d ≡ derived (block_key s block)) where
-  pub handed_room : d.len ≤ length d.bytes
-  handed_room = rw e (key_room (block_key s block))
+  module _ (key : List ℕ) (e : key ≡ block_key s block) where
+    key_fits : within 5 16 (length key) ≡ true
+    key_fits = rw e (within_yes 5 16 (length (block_key s block)) (key_length s block).0 (key_length s block).1)
 
-  pub handed_count : d.len ≡ length (take d.len d.bytes)
-  handed_count = sym (length-take-le d.len d.bytes handed_room)
+    pub stream_made : made key ≡ Some (keyed (block_key s block))
+    stream_made = ap made e ∙ sym (made_keyed (block_key s block) (key_length s block).0 (key_length s block).1)
 
-  pub handed_key : take d.len d.bytes ≡ block_key s block
-  handed_key = ap (λ (k : DerivedKey). take k.len k.bytes) e ∙ key_bytes (block_key s block)
+    -- so what is there is enciphered under it
+    pub part_under : (ok : Bool) (m d d' : List ℕ) → ok ≡ within 5 16 (length key) → d' ≡ pick ok (enciphered (keyed key) m d) d
+        → d' ≡ enciphered (keyed (block_key s block)) m d
+    part_under ok m d d' told g = g ∙ taken _ _ (told ∙ key_fits) ∙ ap (λ (k : List ℕ). enciphered (keyed k) m d) e
 
-  pub handed_fits : within 5 16 (length (take d.len d.bytes)) ≡ true
-  handed_fits = rw handed_key (within_yes 5 16 (length (block_key s block)) (key_length s block).0 (key_length s block).1)
-
-  pub handed_stream : (m : Made) → m ≡ made (take d.len d.bytes) → m.keystream ≡ keyed (block_key s block)
-  handed_stream m g =
-      ap (λ (n : Made). n.keystream) (g ∙ ap made handed_key)
-      ∙ key_stream (block_key s block) (key_length s block).0 (key_length s block).1
-
--- a key that is handed over fits, so what is there is enciphered under it
-pub part_handed : (s : Schedule) (block : ℕ) (a : DerivedKey) → a ≡ derived (block_key s block) → (ok : Bool) (m d d' : List ℕ)
-    → ok ≡ within 5 16 (length (take a.len a.bytes)) → d' ≡ pick ok (enciphered (keyed (take a.len a.bytes)) m d) d
-    → d' ≡ enciphered (keyed (block_key s block)) m d
-part_handed s block a ea ok m d d' told e =
-    e ∙ taken _ _ (told ∙ handed_fits s block a ea) ∙ ap (λ (k : List ℕ). enciphered (keyed k) m d) (handed_key s block a ea)
-
--- two keys that are handed over fit, so the halves are enciphered under them
-pub halves_handed : (s : Schedule) (block other : ℕ) (a b : DerivedKey) → a ≡ derived (block_key s block) → b ≡ derived (block_key s other)
-    → (ok : Bool) (m d d' : List ℕ) → ok ≡ within 5 16 (length (take a.len a.bytes)) && within 5 16 (length (take b.len b.bytes))
-    → d' ≡ pick ok (enciphered_halves (keyed (take a.len a.bytes)) (keyed (take b.len b.bytes)) m d) d
+-- two keys fit, so the halves are enciphered under them
+pub halves_under : (s : Schedule) (block other : ℕ) (key key₁ : List ℕ) → key ≡ block_key s block → key₁ ≡ block_key s other
+    → (ok : Bool) (m d d' : List ℕ) → ok ≡ within 5 16 (length key) && within 5 16 (length key₁)
+    → d' ≡ pick ok (enciphered_halves (keyed key) (keyed key₁) m d) d
     → d' ≡ enciphered_halves (keyed (block_key s block)) (keyed (block_key s other)) m d
-halves_handed s block other a b ea eb ok m d d' told e =
-    let fitting : ok ≡ true = told ∙ rw (handed_fits s block a ea, handed_fits s other b eb) refl in
-    e
-    ∙ taken _ _ fitting
-    ∙ ap (λ (k : List ℕ). enciphered_halves (keyed k) (keyed (take b.len b.bytes)) m d) (handed_key s block a ea)
-    ∙ ap (λ (k : List ℕ). enciphered_halves (keyed (block_key s block)) (keyed k) m d) (handed_key s other b eb)
+halves_under s block other key key₁ e f ok m d d' told g =
+    let fitting : ok ≡ true = told ∙ rw (key_fits s block key e, key_fits s other key₁ f) refl in
+    g ∙ taken _ _ fitting
+    ∙ ap (λ (k : List ℕ). enciphered_halves (keyed k) (keyed key₁) m d) e
+    ∙ ap (λ (k : List ℕ). enciphered_halves (keyed (block_key s block)) (keyed k) m d) f
 
 -- lists given by offsets that agree
 tabulate_same : (f g : ℕ → ℕ) (n : ℕ) → ((i : ℕ) → f i ≡ g i) → tabulate f n ≡ tabulate g n

@@ -9,21 +9,24 @@ ghost use Rattle.sensitive.specs.Derived.{derived};
 ghost use Rattle.laws.specs.Choice.{pick};
 ghost use Rattle.laws.proofs.Written.{Written};
 ghost use Rattle.rc4.specs.Rc4.{keyed, keystream_byte};
-ghost use Rattle.file_params.specs.Questions.{asked, office97, crypto_api};
+ghost use Rattle.file_params.specs.Questions.{asked, unless, office97, crypto_api};
 ghost use Rattle.password_digest.specs.Digest.{sha1_of, md5_of, Digests};
 ghost use Rattle.rc4_office97.specs.Keys.{truncated};
 ghost use Rattle.block_keys.specs.BlockKeys.{block_key, deciphered_at, started_blocks, Decrypts, agree, digest_len, verified, encrypted_verifier, encrypted_verifier_hash};
-ghost use Rattle.block_keys.specs.Lock.{office97_lock, crypto_api_lock, unless, part, scheme_of, Schedules};
+ghost use Rattle.block_keys.specs.Lock.{office97_lock, crypto_api_lock, part, scheme_of, Schedules};
+
+use file_params::Refusal;
+use rc4::Keystream;
 
 // The family of an RC4 lock.
-#[derive(Clone, Copy)]
+#[derive(Clone, Copy, Debug, PartialEq, Eq)]
 pub enum Kind {
     Office97,
     CryptoApi,
 }
 
 // What the keys of all blocks are made from: 1.1 uses the digest's first five bytes.
-#[derive(Clone, Copy)]
+#[derive(Clone, Copy, Debug, PartialEq, Eq)]
 pub struct Schedule {
     pub kind: Kind,
     pub key_bits: u32,
@@ -32,7 +35,7 @@ pub struct Schedule {
 
 // What a structure says of its lock: the family, the key size, whether the summary is sealed, and where salt,
 // verifier and verifier hash are.
-#[derive(Clone, Copy)]
+#[derive(Clone, Copy, Debug, PartialEq, Eq)]
 pub struct Rc4Lock {
     pub kind: Kind,
     pub key_bits: u32,
@@ -42,93 +45,69 @@ pub struct Rc4Lock {
     pub hash: usize,
 }
 
-// What came of reading a structure.
-#[derive(Clone, Copy)]
-pub enum Scheme {
-    Locked(Rc4Lock),
-    Refused(file_params::Refusal),
-}
-
 // The lock of a 1.1 structure.
-fn office97(structure: &[u8]) -> Scheme
+fn office97(structure: &[u8]) -> Result<Rc4Lock, Refusal>
     ensures { result ≡ unless office97_lock (asked (office97 structure.now)) }
 {
-    match rc4_office97::parse(structure) {
-        rc4_office97::Parsed::Refused(refusal) => Scheme::Refused(refusal),
-        rc4_office97::Parsed::Header => Scheme::Locked(Rc4Lock {
-            kind: Kind::Office97,
-            key_bits: limits::RC4_KEY_BITS_DEFAULT,
-            summary_sealed: false,
-            salt: 4,
-            verifier: 20,
-            hash: 36,
-        }),
-    }
+    rc4_office97::parse(structure)?;
+    Ok(Rc4Lock {
+        kind: Kind::Office97,
+        key_bits: limits::RC4_KEY_BITS_DEFAULT,
+        summary_sealed: false,
+        salt: 4,
+        verifier: 20,
+        hash: 36,
+    })
 }
 
 // The lock of a CryptoAPI structure.
-fn crypto_api(structure: &[u8]) -> Scheme
+fn crypto_api(structure: &[u8]) -> Result<Rc4Lock, Refusal>
     ensures { result ≡ unless (crypto_api_lock structure.now) (asked (crypto_api structure.now)) }
 {
-    match rc4_cryptoapi::parse(structure) {
-        rc4_cryptoapi::Parsed::Refused(refusal) => Scheme::Refused(refusal),
-        rc4_cryptoapi::Parsed::Header(header) => Scheme::Locked(Rc4Lock {
-            kind: Kind::CryptoApi,
-            key_bits: header.key_bits,
-            summary_sealed: header.flags & 0x08 == 0,
-            salt: header.salt,
-            verifier: header.encrypted_verifier,
-            hash: header.encrypted_verifier_hash,
-        }),
-    }
+    let header = rc4_cryptoapi::parse(structure)?;
+    Ok(Rc4Lock {
+        kind: Kind::CryptoApi,
+        key_bits: header.key_bits,
+        summary_sealed: header.flags & 0x08 == 0,
+        salt: header.salt,
+        verifier: header.encrypted_verifier,
+        hash: header.encrypted_verifier_hash,
+    })
 }
 
 // Reads a structure of type 1: its lock, or the first of questions 12 to 26 that is answered by a no. The version
 // pair chooses the family.
-pub fn scheme_of(structure: &[u8]) -> Scheme
+pub fn scheme_of(structure: &[u8]) -> Result<Rc4Lock, Refusal>
     ensures { result ≡ scheme_of structure.now }
 {
-    let have = structure.len();
-    let binary_office::Field16::Value(major) = binary_office::le16(structure, 0) else {
-        return Scheme::Refused(file_params::Refusal::EncryptionVersionInfoTruncated(have));
-    };
-    let binary_office::Field16::Value(minor) = binary_office::le16(structure, 2) else {
-        return Scheme::Refused(file_params::Refusal::EncryptionVersionInfoTruncated(have));
-    };
-    match major {
-        1 => match minor {
-            1 => office97(structure),
-            _ => Scheme::Refused(file_params::Refusal::UnsupportedEncryptionVersion(major, minor)),
-        },
-        2..=4 => match minor {
-            2 => crypto_api(structure),
-            _ => Scheme::Refused(file_params::Refusal::UnsupportedEncryptionVersion(major, minor)),
-        },
-        _ => Scheme::Refused(file_params::Refusal::UnsupportedEncryptionVersion(major, minor)),
+    let truncated = Refusal::EncryptionVersionInfoTruncated(structure.len());
+    let major = binary_office::le16(structure, 0).ok_or(truncated)?;
+    let minor = binary_office::le16(structure, 2).ok_or(truncated)?;
+    if (major == 1) & (minor == 1) {
+        return office97(structure);
     }
+    if (2 <= major) & (major <= 4) & (minor == 2) {
+        return crypto_api(structure);
+    }
+    Err(Refusal::UnsupportedEncryptionVersion(major, minor))
 }
 
 // The byte i places after an offset of a structure, 0 past its end.
 fn byte_at(structure: &[u8], at: usize, i: usize) -> u8
     ensures { result ≡ get_or structure.now (at + i) 0 }
 {
-    if structure.len() <= i {
+    let Some(place) = at.checked_add(i) else {
         return 0;
-    }
-    if structure.len() - i <= at {
-        return 0;
-    }
-    structure[at + i]
+    };
+    structure.get(place).copied().unwrap_or(0)
 }
 
 // Fills dst from an offset of a structure on.
 fn copy_part(structure: &[u8], at: usize, dst: &mut [u8])
     ensures { dst.new ≡ part structure.now at (length dst.old) }
 {
-    let mut i = 0;
-    while i < dst.len() {
+    for i in 0..dst.len() {
         dst[i] = byte_at(structure, at, i);
-        i += 1;
     }
 }
 
@@ -138,26 +117,10 @@ fn same(a: &[u8], b: &[u8], n: usize) -> bool
     ensures { result ≡ agree a.now b.now n }
 {
     let mut equal = true;
-    let mut i = 0;
-    while i < n {
-        equal = equal & (a[i] == b[i]);
-        i += 1;
+    for i in 0..n {
+        equal &= a[i] == b[i];
     }
     equal
-}
-
-// A schedule: ok says whether there is one.
-#[derive(Clone, Copy)]
-pub struct Scheduled {
-    pub ok: bool,
-    pub schedule: Schedule,
-}
-
-// The digest of a schedule: ok says whether there is one.
-#[derive(Clone, Copy)]
-struct Digest {
-    ok: bool,
-    bytes: [u8; 20],
 }
 
 // Five bytes, followed by zeros.
@@ -170,47 +133,11 @@ fn widened(h: [u8; 5]) -> [u8; 20]
 }
 
 // The digest of a 1.1 schedule.
-fn digest_97(salt: [u8; 16], password: &[u8], scratch: &mut [u8]) -> Digest
-    ensures { Digests (truncated (md5_of password.now) salt ++ replicate 15 0) 20 password.now scratch.old result.ok result.bytes scratch.new }
+fn digest_97(salt: [u8; 16], password: &[u8], scratch: &mut [u8]) -> Option<[u8; 20]>
+    ensures { Digests (truncated (md5_of password.now) salt ++ replicate 15 0) password.now scratch.old result scratch.new }
 {
-    let h0 = password_digest::md5_password(password, scratch);
-    if !h0.ok {
-        return Digest {
-            ok: false,
-            bytes: [0u8; 20],
-        };
-    }
-    let bytes = h0.bytes;
-    let h1 = rc4_office97::truncated_h1(bytes, salt);
-    let wide = widened(h1);
-    Digest {
-        ok: true,
-        bytes: wide,
-    }
-}
-
-// The digest of a CryptoAPI schedule.
-fn digest_api(salt: [u8; 16], password: &[u8], scratch: &mut [u8]) -> Digest
-    ensures { Digests (sha1_of salt password.now) 20 password.now scratch.old result.ok result.bytes scratch.new }
-{
-    let h0 = password_digest::sha1_password(salt, password, scratch);
-    let bytes = h0.bytes;
-    Digest { ok: h0.ok, bytes }
-}
-
-// The schedule of a family, a key size and a digest.
-fn with_digest(kind: Kind, key_bits: u32, digest: Digest) -> Scheduled
-    ensures { result ≡ record { ok = digest.ok; schedule = record { kind = kind; key_bits = key_bits; digest = digest.bytes } } }
-{
-    let bytes = digest.bytes;
-    Scheduled {
-        ok: digest.ok,
-        schedule: Schedule {
-            kind,
-            key_bits,
-            digest: bytes,
-        },
-    }
+    let h0 = password_digest::md5_password(password, scratch)?;
+    Some(widened(rc4_office97::truncated_h1(h0, salt)))
 }
 
 // The schedule of a family, a key size, a salt and a password.
@@ -220,19 +147,18 @@ pub fn make_schedule(
     salt: [u8; 16],
     password: &[u8],
     scratch: &mut [u8],
-) -> Scheduled
+) -> Option<Schedule>
     ensures { Schedules kind key_bits salt password.now scratch.old result scratch.new }
 {
-    match kind {
-        Kind::Office97 => {
-            let digest = digest_97(salt, password, scratch);
-            with_digest(Kind::Office97, key_bits, digest)
-        }
-        Kind::CryptoApi => {
-            let digest = digest_api(salt, password, scratch);
-            with_digest(Kind::CryptoApi, key_bits, digest)
-        }
-    }
+    let digest = match kind {
+        Kind::Office97 => digest_97(salt, password, scratch)?,
+        Kind::CryptoApi => password_digest::sha1_password(salt, password, scratch)?,
+    };
+    Some(Schedule {
+        kind,
+        key_bits,
+        digest,
+    })
 }
 
 // The schedule of a lock and a password.
@@ -241,22 +167,20 @@ pub fn schedule_of(
     lock: Rc4Lock,
     password: &[u8],
     scratch: &mut [u8],
-) -> Scheduled
+) -> Option<Schedule>
     ensures { Schedules lock.kind lock.key_bits (part structure.now lock.salt 16) password.now scratch.old result scratch.new }
 {
     let mut salt = [0u8; 16];
     copy_part(structure, lock.salt, &mut salt);
-    let kind = lock.kind;
-    make_schedule(kind, lock.key_bits, salt, password, scratch)
+    make_schedule(lock.kind, lock.key_bits, salt, password, scratch)
 }
 
 // The key of a block.
 pub fn block_key(schedule: Schedule, block: u32) -> sensitive::DerivedKey
     ensures { result ≡ derived (block_key schedule block) }
 {
-    let kind = schedule.kind;
     let digest = schedule.digest;
-    match kind {
+    match schedule.kind {
         Kind::Office97 => rc4_office97::block_key(
             [digest[0], digest[1], digest[2], digest[3], digest[4]],
             block,
@@ -266,14 +190,11 @@ pub fn block_key(schedule: Schedule, block: u32) -> sensitive::DerivedKey
 }
 
 // The keystream of a block, from its first byte on.
-fn keystream(schedule: Schedule, block: u32) -> rc4::Keystream
+fn keystream(schedule: Schedule, block: u32) -> Keystream
     ensures { result ≡ keyed (block_key schedule block) }
 {
     let key = block_key(schedule, block);
-    let bytes = key.bytes;
-    let len = key.len;
-    let made = rc4::Keystream::new(&bytes[..len]);
-    made.keystream
+    Keystream::new(key.as_slice()).unwrap()
 }
 
 // The password check: block 0's keystream runs over verifier, then hash, unbroken, and the digest of the first must
@@ -286,8 +207,7 @@ pub fn verify_password(schedule: Schedule, verifier: [u8; 16], hash: [u8; 20]) -
     let then = first.apply(&verifier, &mut plain);
     let mut plain_hash = [0u8; 20];
     then.apply(&hash, &mut plain_hash);
-    let kind = schedule.kind;
-    match kind {
+    match schedule.kind {
         Kind::Office97 => {
             let digest = md_5::digest(&plain);
             same(&digest, &plain_hash, 16)
@@ -311,7 +231,7 @@ pub fn verify(structure: &[u8], lock: Rc4Lock, schedule: Schedule) -> bool
 }
 
 // What a structure holds of a verifier: a digest of 16 bytes is followed by zeros.
-#[derive(Clone, Copy)]
+#[derive(Clone, Copy, Debug, PartialEq, Eq)]
 pub struct EncryptedVerifier {
     pub verifier: [u8; 16],
     pub hash: [u8; 20],
@@ -325,8 +245,7 @@ pub fn encrypt_verifier(schedule: Schedule, verifier: [u8; 16]) -> EncryptedVeri
     let mut enciphered = [0u8; 16];
     let then = first.apply(&verifier, &mut enciphered);
     let mut hash = [0u8; 20];
-    let kind = schedule.kind;
-    match kind {
+    match schedule.kind {
         Kind::Office97 => {
             let md5_digest = md_5::digest(&verifier);
             then.apply(&md5_digest, &mut hash);
@@ -344,12 +263,6 @@ pub fn encrypt_verifier(schedule: Schedule, verifier: [u8; 16]) -> EncryptedVeri
             }
         }
     }
-}
-
-fn least(a: usize, b: usize) -> usize
-    ensures { result ≡ min a b }
-{
-    if a < b { a } else { b }
 }
 
 // The key of a block by its number, of which the key uses 32 bits.
@@ -372,9 +285,7 @@ fn decrypt_block(
     ensures { Written (λ (o : ℕ). bit_xor (get_or src.now o 0) (keystream_byte (block_key schedule block) (o - at))) at end dst.old dst.new }
 {
     let key = key_of(schedule, block);
-    let bytes = key.bytes;
-    let len = key.len;
-    rc4::apply_key(&bytes[..len], &src[at..end], &mut dst[at..end]);
+    rc4::apply_key(key.as_slice(), &src[at..end], &mut dst[at..end]);
 }
 
 // Deciphers two whole blocks, side by side.
@@ -391,14 +302,10 @@ fn decrypt_pair(
 {
     let first = key_of(schedule, block);
     let second = key_of(schedule, block + 1);
-    let key = first.bytes;
-    let key_len = first.len;
-    let other = second.bytes;
-    let other_len = second.len;
     let end = at + (size + size);
     rc4::apply_halves(
-        &key[..key_len],
-        &other[..other_len],
+        first.as_slice(),
+        second.as_slice(),
         &src[at..end],
         &mut dst[at..end],
     );
@@ -411,6 +318,7 @@ fn decrypt_pairs(schedule: Schedule, size: usize, n: usize, src: &[u8], dst: &mu
 {
     let mut block: usize = 0;
     let mut at: usize = 0;
+    // Kept as a while: a step is two blocks, and a for over block numbers would multiply in each turn.
     while size <= (n - at) / 2 {
         decrypt_pair(schedule, block, size, at, src, dst);
         at = at + (size + size);
@@ -434,8 +342,9 @@ fn decrypt_rest(
 {
     let mut block = from;
     let mut at = from * size;
+    // Kept as a while: it steps by bytes, the last time by what is left, and the count of blocks is only what it returns.
     while at < n {
-        let end = at + least(size, n - at);
+        let end = at + size.min(n - at);
         decrypt_block(schedule, block, at, end, src, dst);
         at = end;
         block += 1;
@@ -452,7 +361,7 @@ pub fn decrypt_in_blocks(schedule: Schedule, size: usize, src: &[u8], dst: &mut 
     if size == 0 {
         return 0;
     }
-    let n = least(src.len(), dst.len());
+    let n = src.len().min(dst.len());
     let blocks = decrypt_pairs(schedule, size, n, src, dst);
     decrypt_rest(schedule, size, blocks, n, src, dst)
 }

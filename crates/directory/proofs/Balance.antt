@@ -1,20 +1,20 @@
 -- Counting the open BOF tests that BOF and EOF pair up like brackets. Ids that pair up leave the count as it was; and where the count ends at 0, the ids are
 -- taken apart into paired parts, one EOF between two of them for each BOF that was open.
 -- Assumes nothing.
+use Rattle.std.specs.Prelude.{Option, None, Some}
 use mathlib.Core.Path.{◌≡◌, refl, sym, ap, ◌∙◌}
 use mathlib.Core.Bool.{Bool, true, false}
 use mathlib.Core.List.{List, [], ◌∷◌, ◌++◌, append_assoc, append-nil}
-use mathlib.Core.Option.{Option, none, some}
 use Prim.Native.Nat.{ℕ, zero, suc, ◌+◌, ◌-◌}
 use native.Mathlib.Numerals.{add-one}
 use native.Mathlib.Omega.{arith}
 use borrow.Author.Tests.{eq-eqb, ne_eqb, eqb-true}
 use lib.Dec.{eqb}
+use Rattle.std.proofs.lemmas.Bool.{false≢true}
 use Rattle.laws.specs.Choice.{pick}
 use Rattle.laws.proofs.Choice.{taken, left, same_or}
-use Rattle.binary_office.specs.Walk.{BiffRecord}
+use Rattle.binary_office.specs.declared.BiffRecord.{BiffRecord}
 use Rattle.directory.specs.Directory.{is_bof, is_eof, unpaired}
-use Rattle.directory.proofs.Records.{false_true}
 use Rattle.directory.specs.Brackets.{bof, eof, ids_of, Paired, nothing, other, around, Counted}
 
 -- the count over ids alone: n are open
@@ -91,7 +91,7 @@ passes f g (close p c) = close (other f g p) c
 
 none_open : (n : ℕ) → eqb n 0 ≡ true → Closes n []
 none_open zero e = done nothing
-none_open (suc n) e = false_true (sym (some_open n) ∙ e)
+none_open (suc n) e = absurd (false≢true (sym (some_open n) ∙ e))
 
 counted_down : (n : ℕ) (ids : List ℕ) → closed n ids ≡ true → Closes n ids
 unfolding closed
@@ -105,67 +105,67 @@ counted_down n (id ∷ ids) e =
     (λ g. passes f g (counted_down n ids (sym (closed_other n id ids f g) ∙ e))))
   where
     by_open : (n : ℕ) → closed n (eof ∷ ids) ≡ true → ((m : ℕ) → closed m ids ≡ true → Closes m ids) → Closes n (eof ∷ ids)
-    by_open zero e again = false_true (sym (closed_stray eof ids refl) ∙ e)
+    by_open zero e again = absurd (false≢true (sym (closed_stray eof ids refl) ∙ e))
     by_open (suc m) e again = close nothing (again m (sym (closed_eof m eof ids refl) ∙ e))
 
 all_closed : {ids : List ℕ} → Closes zero ids → Paired ids
 all_closed (done p) = p
 
 -- the count over records is the count over their ids
-tested : (size n : ℕ) (rs : List BiffRecord) → (closed n (ids_of rs) ≡ true → unpaired size n rs ≡ none) × (unpaired size n rs ≡ none → closed n (ids_of rs) ≡ true)
+tested : (size n : ℕ) (rs : List BiffRecord) → (closed n (ids_of rs) ≡ true → unpaired size n rs ≡ None) × (unpaired size n rs ≡ None → closed n (ids_of rs) ≡ true)
 unfolding closed unpaired pick
 tested size n [] = go (eqb n 0)
   where
-    go : (t : Bool) → (t ≡ true → pick t none (some size) ≡ none) × (pick t none (some size) ≡ none → t ≡ true)
+    go : (t : Bool) → (t ≡ true → pick t None (Some size) ≡ None) × (pick t None (Some size) ≡ None → t ≡ true)
     go true = (λ e. refl, λ e. refl)
-    go false = (λ e. false_true e, λ e. cc)
+    go false = (λ e. absurd (false≢true e), λ e. cc)
 tested size n (r ∷ rs) = go (is_bof r) (is_eof r) (eqb n 0) (tested size (n + 1) rs) (tested size (n - 1) rs) (tested size n rs)
   where
     Same : ℕ → Type 0
-    Same m = (closed m (ids_of rs) ≡ true → unpaired size m rs ≡ none) × (unpaired size m rs ≡ none → closed m (ids_of rs) ≡ true)
+    Same m = (closed m (ids_of rs) ≡ true → unpaired size m rs ≡ None) × (unpaired size m rs ≡ None → closed m (ids_of rs) ≡ true)
 
     of_ids : Bool → Bool → Bool → Bool
     of_ids t u v = pick t (closed (n + 1) (ids_of rs)) (pick u (pick v false (closed (n - 1) (ids_of rs))) (closed n (ids_of rs)))
 
     of_records : Bool → Bool → Bool → Option ℕ
-    of_records t u v = pick t (unpaired size (n + 1) rs) (pick u (pick v (some r.at) (unpaired size (n - 1) rs)) (unpaired size n rs))
+    of_records t u v = pick t (unpaired size (n + 1) rs) (pick u (pick v (Some r.at) (unpaired size (n - 1) rs)) (unpaired size n rs))
 
-    go : (t u v : Bool) → Same (n + 1) → Same (n - 1) → Same n → (of_ids t u v ≡ true → of_records t u v ≡ none) × (of_records t u v ≡ none → of_ids t u v ≡ true)
+    go : (t u v : Bool) → Same (n + 1) → Same (n - 1) → Same n → (of_ids t u v ≡ true → of_records t u v ≡ None) × (of_records t u v ≡ None → of_ids t u v ≡ true)
     go true u v a b c = a
-    go false true true a b c = (λ e. false_true e, λ e. cc)
+    go false true true a b c = (λ e. absurd (false≢true e), λ e. cc)
     go false true false a b c = b
     go false false v a b c = c
 
 -- records that leave none open, and others behind them
-behind_closed : (size n : ℕ) (before rest : List BiffRecord) → unpaired size n before ≡ none → unpaired size n (before ++ rest) ≡ unpaired size 0 rest
+behind_closed : (size n : ℕ) (before rest : List BiffRecord) → unpaired size n before ≡ None → unpaired size n (before ++ rest) ≡ unpaired size 0 rest
 unfolding unpaired pick
 behind_closed size n [] rest e = none_left n e
   where
-    none_left : (n : ℕ) → pick (eqb n 0) none (some size) ≡ none → unpaired size n rest ≡ unpaired size 0 rest
+    none_left : (n : ℕ) → pick (eqb n 0) None (Some size) ≡ None → unpaired size n rest ≡ unpaired size 0 rest
     none_left zero e = refl
-    none_left (suc n) e = let z : some size ≡ none = sym (left none (some size) (some_open n)) ∙ e in cc
+    none_left (suc n) e = let z : Some size ≡ None = sym (left None (Some size) (some_open n)) ∙ e in cc
 behind_closed size n (r ∷ before) rest e =
     go (is_bof r) (is_eof r) (eqb n 0) e (behind_closed size (n + 1) before rest) (behind_closed size (n - 1) before rest) (behind_closed size n before rest)
   where
     Same : ℕ → Type 0
-    Same m = unpaired size m before ≡ none → unpaired size m (before ++ rest) ≡ unpaired size 0 rest
+    Same m = unpaired size m before ≡ None → unpaired size m (before ++ rest) ≡ unpaired size 0 rest
 
-    go : (t u v : Bool) → pick t (unpaired size (n + 1) before) (pick u (pick v (some r.at) (unpaired size (n - 1) before)) (unpaired size n before)) ≡ none
+    go : (t u v : Bool) → pick t (unpaired size (n + 1) before) (pick u (pick v (Some r.at) (unpaired size (n - 1) before)) (unpaired size n before)) ≡ None
         → Same (n + 1) → Same (n - 1) → Same n
         → pick t (unpaired size (n + 1) (before ++ rest))
-        (pick u (pick v (some r.at) (unpaired size (n - 1) (before ++ rest))) (unpaired size n (before ++ rest))) ≡ unpaired size 0 rest
+        (pick u (pick v (Some r.at) (unpaired size (n - 1) (before ++ rest))) (unpaired size n (before ++ rest))) ≡ unpaired size 0 rest
     go true u v e a b c = a e
     go false true true e a b c = cc
     go false true false e a b c = b e
     go false false v e a b c = c e
 
 -- an EOF with none open
-at_stray : (size : ℕ) (r : BiffRecord) (behind : List BiffRecord) → r.id ≡ eof → unpaired size 0 (r ∷ behind) ≡ some r.at
+at_stray : (size : ℕ) (r : BiffRecord) (behind : List BiffRecord) → r.id ≡ eof → unpaired size 0 (r ∷ behind) ≡ Some r.at
 unfolding unpaired
 at_stray size r behind e =
     left (unpaired size (0 + 1) behind) _ (ne_eqb r.id 0x0809 (not_both r.id e))
     ∙ taken _ (unpaired size 0 behind) (eq-eqb r.id 0x000A e)
-    ∙ taken (some r.at) (unpaired size (0 - 1) behind) refl
+    ∙ taken (Some r.at) (unpaired size (0 - 1) behind) refl
 
 -- where the count does not end at 0, it stopped at such an EOF, or told the length
 record Stray (size n : ℕ) (rs : List BiffRecord) : Type 0 where
@@ -173,25 +173,25 @@ record Stray (size n : ℕ) (rs : List BiffRecord) : Type 0 where
   this : BiffRecord
   behind : List BiffRecord
   split : rs ≡ before ++ (this ∷ behind)
-  closes : unpaired size n before ≡ none
+  closes : unpaired size n before ≡ None
   ends : this.id ≡ eof
 
 data Where (size n : ℕ) (rs : List BiffRecord) (p : ℕ) : Type 0 where
   stopped : Stray size n rs → Where size n rs p
   at_end : p ≡ size → Where size n rs p
 
-stopped_at : (size n : ℕ) (rs : List BiffRecord) (p : ℕ) → unpaired size n rs ≡ some p → Where size n rs p
+stopped_at : (size n : ℕ) (rs : List BiffRecord) (p : ℕ) → unpaired size n rs ≡ Some p → Where size n rs p
 unfolding unpaired pick
 stopped_at size n [] p e = go (eqb n 0) e
   where
-    go : (t : Bool) → pick t none (some size) ≡ some p → Where size n [] p
+    go : (t : Bool) → pick t None (Some size) ≡ Some p → Where size n [] p
     go true e = at_end (cc)
     go false e = at_end (cc)
 stopped_at size n (r ∷ rs) p e =
     go (is_bof r) (is_eof r) (eqb n 0) refl refl refl e (stopped_at size (n + 1) rs p) (stopped_at size (n - 1) rs p) (stopped_at size n rs p)
   where
     -- the same records behind one more, which is counted as given
-    more : (m : ℕ) → ((before : List BiffRecord) → unpaired size m before ≡ none → unpaired size n (r ∷ before) ≡ none) → Where size m rs p → Where size n (r ∷ rs) p
+    more : (m : ℕ) → ((before : List BiffRecord) → unpaired size m before ≡ None → unpaired size n (r ∷ before) ≡ None) → Where size m rs p → Where size n (r ∷ rs) p
     more m f (stopped w) =
         stopped
         (record {
@@ -205,11 +205,11 @@ stopped_at size n (r ∷ rs) p e =
     more m f (at_end g) = at_end g
 
     opened : Bool → Bool → Bool → List BiffRecord → Option ℕ
-    opened t u v before = pick t (unpaired size (n + 1) before) (pick u (pick v (some r.at) (unpaired size (n - 1) before)) (unpaired size n before))
+    opened t u v before = pick t (unpaired size (n + 1) before) (pick u (pick v (Some r.at) (unpaired size (n - 1) before)) (unpaired size n before))
 
-    go : (t u v : Bool) → is_bof r ≡ t → is_eof r ≡ u → eqb n 0 ≡ v → opened t u v rs ≡ some p
-        → (unpaired size (n + 1) rs ≡ some p → Where size (n + 1) rs p) → (unpaired size (n - 1) rs ≡ some p → Where size (n - 1) rs p)
-        → (unpaired size n rs ≡ some p → Where size n rs p)
+    go : (t u v : Bool) → is_bof r ≡ t → is_eof r ≡ u → eqb n 0 ≡ v → opened t u v rs ≡ Some p
+        → (unpaired size (n + 1) rs ≡ Some p → Where size (n + 1) rs p) → (unpaired size (n - 1) rs ≡ Some p → Where size (n - 1) rs p)
+        → (unpaired size n rs ≡ Some p → Where size n rs p)
         → Where size n (r ∷ rs) p
     go true u v f g h e a b c = more (n + 1) (λ before k. rw f k) (a e)
     go false true true f g h e a b c =
@@ -227,18 +227,18 @@ counted =
       left_open = λ size rs f g. by_answer size rs f g (unpaired size 0 rs) refl;
     }
   where
-    none_left : (size : ℕ) (rs : List BiffRecord) → Paired (ids_of rs) → unpaired size 0 rs ≡ none
+    none_left : (size : ℕ) (rs : List BiffRecord) → Paired (ids_of rs) → unpaired size 0 rs ≡ None
     none_left size rs p = (tested size 0 rs).0 (ap (closed 0) (sym (append-nil (ids_of rs))) ∙ balanced p 0 [])
 
-    all_paired : (size : ℕ) (rs : List BiffRecord) → unpaired size 0 rs ≡ none → Paired (ids_of rs)
+    all_paired : (size : ℕ) (rs : List BiffRecord) → unpaired size 0 rs ≡ None → Paired (ids_of rs)
     all_paired size rs e = all_closed (counted_down 0 (ids_of rs) ((tested size 0 rs).1 e))
 
     by_answer : (size : ℕ) (rs : List BiffRecord) → (Paired (ids_of rs) → ⊥)
         → ((before : List BiffRecord) (r : BiffRecord) (behind : List BiffRecord) → rs ≡ before ++ (r ∷ behind) → Paired (ids_of before) → r.id ≡ eof → ⊥)
-        → (o : Option ℕ) → unpaired size 0 rs ≡ o → unpaired size 0 rs ≡ some size
-    by_answer size rs f g none e = absurd (f (all_paired size rs e))
-    by_answer size rs f g (some p) e = by_place_lem (stopped_at size 0 rs p e)
+        → (o : Option ℕ) → unpaired size 0 rs ≡ o → unpaired size 0 rs ≡ Some size
+    by_answer size rs f g None e = absurd (f (all_paired size rs e))
+    by_answer size rs f g (Some p) e = by_place_lem (stopped_at size 0 rs p e)
       where
-        by_place_lem : Where size 0 rs p → unpaired size 0 rs ≡ some size
+        by_place_lem : Where size 0 rs p → unpaired size 0 rs ≡ Some size
         by_place_lem (stopped w) = absurd (g w.before w.this w.behind w.split (all_paired size w.before w.closes) w.ends)
-        by_place_lem (at_end h) = e ∙ ap some h
+        by_place_lem (at_end h) = e ∙ ap Some h

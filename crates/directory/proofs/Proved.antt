@@ -1,50 +1,48 @@
 -- What request T-01 says of the directory: where it answers, no check found anything, and each of its sentences is what one check did not find.
 -- Assumes nothing.
+use Rattle.std.specs.Option.{unwrap_or}
+use Rattle.std.specs.Prelude.{Option, None, Some, Ok, Err, is_none}
 use mathlib.Core.Path.{◌≡◌, refl, sym, ap, ◌∙◌}
-use mathlib.Core.Bool.{Bool, true, false, not, ◌&&◌, ◌||◌}
+use mathlib.Core.Bool.{Bool, true, false, ◌&&◌, ◌||◌}
 use mathlib.Core.List.Memᴰ
 use mathlib.Core.List.{List, [], ◌∷◌, Memᴰ, ◌++◌}
 use mathlib.Core.Logic.{inl, inr}
-use mathlib.Core.Option.{Option, none, some}
 use Prim.Native.Nat.{ℕ, zero, suc, ◌≤◌, ◌<◌}
 use native.Mathlib.Omega.{arith}
-use borrow.Author.Tests.{lt-ltb, le-ltb, eqb-true, eq-eqb, le-leb, leb-true}
+use borrow.Author.Tests.{eqb-true, eq-eqb, le-leb, leb-true}
 use lib.Dec.{eqb, leb}
 use lib.ListN.{length, get_or, take, length-append}
 use lib.Seq.{get_or-take, length-take-le}
+use Rattle.std.proofs.lemmas.Option.{none-some, slice_get_past, slice_get-get_or}
+use Rattle.std.specs.List.{slice_get}
+use Rattle.std.proofs.lemmas.Bool.{false≢true}
 use Rattle.laws.specs.Choice.{pick}
-use Rattle.laws.proofs.Choice.{taken, left, either}
-use Rattle.binary_office.specs.declared.WalkEnd.TheVariants as end
-use Rattle.binary_office.specs.Walk.{BiffRecord, walk}
+use Rattle.laws.proofs.Choice.{either, or_right}
+use Rattle.binary_office.specs.declared.BiffRecord.{BiffRecord}
+use Rattle.binary_office.specs.Walk.{walk}
 use Rattle.file_params.specs.declared.Refusal.{Refusal}
 use Rattle.file_params.specs.declared.Refusal.TheVariants.{StreamTooLarge, BiffRecordUnreadable, WorkbookBofMissing, BoundSheetStart, BofEofUnpaired}
-use Rattle.file_params.specs.Questions.{asked, in_order, clean, fault_at, starts_bof, is_some, or_zero}
+use Rattle.file_params.specs.Questions.{asked, unless, in_order, starts_bof}
+use Rattle.file_params.proofs.Laws.{unless_refused, unless_passed, unless_told}
 use Rattle.excel97.specs.declared.Report.{Report}
-use Rattle.excel97.specs.declared.Answer.TheVariants.{Opened}
 use Rattle.excel97.specs.Open.{Opens}
 use Rattle.excel97.specs.Demand3.{Plain}
 use Rattle.survey.proofs.Told.{ends_clean}
 use Rattle.excel97.proofs.Settled.{HasOpened, has_opened}
 use Rattle.excel97.proofs.PlainBytes.{plain_left, in_stream, length_plain}
-use Rattle.directory.specs.declared.Start.TheVariants.{At, Nothing}
 use Rattle.directory.specs.declared.Sheets.{Sheets}
-use Rattle.directory.specs.declared.Answer.TheVariants.{Told, Refused}
-use Rattle.directory.specs.Directory.{is_bof, bound_sheets, start_of, starts, bof_at, unfit, unpaired, of_sheets, checks, start_at, sheets_of, answer_by, directory}
+use Rattle.directory.specs.Directory.{is_bof, bound_sheets, start_of, starts, bof_at, unfit, unpaired, of_sheets, checks, sheets_of, directory}
 use Rattle.directory.specs.Brackets.{bof}
 use Rattle.directory.specs.Theorems.{Answers, TwoPlaces, Directories, Header, Fits, FirstUnfit}
 use Rattle.directory.proofs.Balance.{counted}
-use Rattle.directory.proofs.Checks.{length_starts}
-use Rattle.directory.proofs.Records.{false_true}
+use Rattle.directory.proofs.Records.{length_starts}
 use Rattle.directory.proofs.SameDirectory.{no_unfit, no_unpaired, same_directory}
 use Rattle.directory.proofs.TwoBooks.{two_books}
-
-no_start : {q : ℕ} → At q ≡ Nothing → ⊥
-no_start z = let y : ◌≡◌ {A = ℕ} 0 1 = cc in omega arith
 
 -- the test of a header, and the record that it finds
 bof_record : (rs : List BiffRecord) (p : ℕ) → bof_at rs p ≡ true → (r : BiffRecord) × (Memᴰ r rs) × (r.at ≡ p) × (r.id ≡ bof)
 unfolding bof_at
-bof_record [] p e = false_true e
+bof_record [] p e = absurd (false≢true e)
 bof_record (r ∷ rs) p e = go (eqb r.at p) (is_bof r) refl refl e (bof_record rs p)
   where
     go : (t u : Bool) → eqb r.at p ≡ t → is_bof r ≡ u → ((t && u) || bof_at rs p) ≡ true
@@ -60,12 +58,8 @@ record_bof [] r p i e g = absurd (Memᴰ.not-nil i)
 record_bof (t ∷ rs) r p i e g =
     elim (Memᴰ.cases_cons i) [
       | inl q ↦ rw (eq-eqb t.at p (sym (ap (λ (x : BiffRecord). x.at) q) ∙ e), eq-eqb t.id 0x0809 (sym (ap (λ (x : BiffRecord). x.id) q) ∙ g))
-      | inr j ↦ rw (record_bof rs r p j e g) (or_true (eqb t.at p && is_bof t))
+      | inr j ↦ rw (record_bof rs r p j e g) (or_right (eqb t.at p && is_bof t) true refl)
     ]
-  where
-    or_true : (b : Bool) → (b || true) ≡ true
-    or_true true = refl
-    or_true false = refl
 
 module _ (s : List ℕ) where
   abbrev fitting : BiffRecord → Bool
@@ -76,8 +70,8 @@ module _ (s : List ℕ) where
     where
       go : (t u : Bool) → leb 4 r.len ≡ t → bof_at (walk s).records (start_of s r) ≡ u → (t && u) ≡ true → Fits s r
       go true true h k e = record { four = leb-true 4 r.len h; start = bof_record (walk s).records (start_of s r) k }
-      go true false h k e = false_true e
-      go false u h k e = false_true e
+      go true false h k e = absurd (false≢true e)
+      go false u h k e = absurd (false≢true e)
 
   fits_tested : (r : BiffRecord) → Fits s r → fitting r ≡ true
   fits_tested r f =
@@ -85,15 +79,15 @@ module _ (s : List ℕ) where
       rw (le-leb 4 r.len f.four, record_bof (walk s).records w.0 (start_of s r) w.1 w.2 w.3)
 
   -- the search for a BoundSheet8 record that does not fit: it finds none, or the first
-  all_fit : (rs : List BiffRecord) → unfit s (walk s).records rs ≡ none → (r : BiffRecord) → Memᴰ r rs → Fits s r
+  all_fit : (rs : List BiffRecord) → unfit s (walk s).records rs ≡ None → (r : BiffRecord) → Memᴰ r rs → Fits s r
   unfolding unfit pick
   all_fit [] e r i = absurd (Memᴰ.not-nil i)
   all_fit (t ∷ rs) e r i = go (fitting t) refl e (all_fit rs)
     where
-      go : (b : Bool) → fitting t ≡ b → pick b (unfit s (walk s).records rs) (some t.at) ≡ none
-          → (unfit s (walk s).records rs ≡ none → (q : BiffRecord) → Memᴰ q rs → Fits s q) → Fits s r
+      go : (b : Bool) → fitting t ≡ b → pick b (unfit s (walk s).records rs) (Some t.at) ≡ None
+          → (unfit s (walk s).records rs ≡ None → (q : BiffRecord) → Memᴰ q rs → Fits s q) → Fits s r
       go true h e again = elim (Memᴰ.cases_cons i) [ inl q ↦ rw q (fits t h) | inr j ↦ again e r j ]
-      go false h e again = let z : false ≡ true = cc in false_true z
+      go false h e again = let z : false ≡ true = cc in absurd (false≢true z)
 
   record First (rs : List BiffRecord) (p : ℕ) : Type 0 where
     before : List BiffRecord
@@ -104,9 +98,9 @@ module _ (s : List ℕ) where
     unfits : Fits s this → ⊥
     place : this.at ≡ p
 
-  first_unfit : (rs : List BiffRecord) (p : ℕ) → unfit s (walk s).records rs ≡ some p → First rs p
+  first_unfit : (rs : List BiffRecord) (p : ℕ) → unfit s (walk s).records rs ≡ Some p → First rs p
   unfolding unfit pick
-  first_unfit [] p e = let z : false ≡ true = cc in false_true z
+  first_unfit [] p e = let z : false ≡ true = cc in absurd (false≢true z)
   first_unfit (t ∷ rs) p e = go (fitting t) refl e (first_unfit rs p)
     where
       none_before : (r : BiffRecord) → Memᴰ r [] → Fits s r
@@ -124,11 +118,11 @@ module _ (s : List ℕ) where
             place = w.place;
           }
 
-      go : (b : Bool) → fitting t ≡ b → pick b (unfit s (walk s).records rs) (some t.at) ≡ some p
-          → (unfit s (walk s).records rs ≡ some p → First rs p) → First (t ∷ rs) p
+      go : (b : Bool) → fitting t ≡ b → pick b (unfit s (walk s).records rs) (Some t.at) ≡ Some p
+          → (unfit s (walk s).records rs ≡ Some p → First rs p) → First (t ∷ rs) p
       go true h e again = more h (again e)
       go false h e again =
-          record { before = []; this = t; behind = rs; split = refl; fit = none_before; unfits = λ f. false_true (sym h ∙ fits_tested t f); place = cc }
+          record { before = []; this = t; behind = rs; split = refl; fit = none_before; unfits = λ f. absurd (false≢true (sym h ∙ fits_tested t f)); place = cc }
 
 module _ (s : List ℕ) where
   abbrev all : List BiffRecord
@@ -149,37 +143,34 @@ module _ (s : List ℕ) where
 
   -- what was told is told past all checks
   module _ (place : ℕ) (t : Sheets) where
-    by_asked : (o : Option Refusal) → answer_by s place o ≡ Told t → (o ≡ none) × (t ≡ sheets_of s sheets place)
-    by_asked none e = (refl, cc)
-    by_asked (some r) e = (cc, cc)
-
-    told_by : directory s place ≡ Told t → (asked (checks s) ≡ none) × (t ≡ sheets_of s sheets place)
+    told_by : directory s place ≡ Ok t → t ≡ sheets_of s sheets place
     unfolding directory
-    told_by e = by_asked (asked (checks s)) e
+    told_by e = unless_told (sheets_of s sheets place) t (asked (checks s)) e
 
-    module _ (e : directory s place ≡ Told t) where
-      passed : asked (checks s) ≡ none
-      passed = (told_by e).0
+    module _ (e : directory s place ≡ Ok t) where
+      passed : asked (checks s) ≡ None
+      unfolding directory
+      passed = sym (unless_passed (sheets_of s sheets place) t (asked (checks s)) e)
 
-      start_is : t.start ≡ start_at (starts s sheets) place
-      start_is = ap (λ (x : Sheets). x.start) (told_by e).1
+      start_is : t.start ≡ slice_get (starts s sheets) place
+      start_is = ap (λ (x : Sheets). x.start) (told_by e)
 
       count_is : t.count ≡ length (starts s sheets)
-      count_is = ap (λ (x : Sheets). x.count) (told_by e).1 ∙ sym (length_starts s sheets)
+      count_is = ap (λ (x : Sheets). x.count) (told_by e) ∙ sym (length_starts s sheets)
 
-      from_count : t.count ≤ place → t.start ≡ Nothing
-      from_count h = start_is ∙ left (At (get_or (starts s sheets) place 0)) Nothing (le-ltb place (length (starts s sheets)) (rw count_is at h))
+      from_count : t.count ≤ place → t.start ≡ None
+      from_count h = start_is ∙ slice_get_past (starts s sheets) place (rw count_is at h)
 
       -- below the count there is a start, the one of that place
-      below_count : place < t.count → t.start ≡ At (get_or (starts s sheets) place 0)
-      below_count h = start_is ∙ taken (At (get_or (starts s sheets) place 0)) Nothing (lt-ltb place (length (starts s sheets)) (rw count_is at h))
+      below_count : place < t.count → t.start ≡ Some (get_or (starts s sheets) place 0)
+      below_count h = start_is ∙ slice_get-get_or (starts s sheets) place 0 (rw count_is at h)
 
-      told_header : (p : ℕ) → t.start ≡ At p → Header s p
+      told_header : (p : ℕ) → t.start ≡ Some p → Header s p
       told_header p g =
           either t.count place
-          (λ h. let z : At p ≡ Nothing = sym g ∙ from_count h in absurd (no_start z))
+          (λ h. let z : Some p ≡ None = sym g ∙ from_count h in absurd (none-some _ (sym z)))
           (λ h.
-          let z : At p ≡ At (get_or (starts s sheets) place 0) = sym g ∙ below_count h in
+          let z : Some p ≡ Some (get_or (starts s sheets) place 0) = sym g ∙ below_count h in
           let q : get_or (starts s sheets) place 0 ≡ p = cc in
           let below : place < length sheets = rw (length_starts s sheets) at (rw count_is at h) in
           rw q at (start_of_lem place sheets below (all_fit s sheets (no_unfit s passed))))
@@ -192,7 +183,7 @@ module _ (s : List ℕ) where
             brackets = counted.passes (length s) all (no_unpaired s passed);
             none_there = λ g.
                 either t.count place (λ h. h)
-                (λ h. let z : At (get_or (starts s sheets) place 0) ≡ Nothing = sym (below_count h) ∙ g in absurd (no_start z));
+                (λ h. let z : Some (get_or (starts s sheets) place 0) ≡ None = sym (below_count h) ∙ g in absurd (none-some _ (sym z)));
             none_from = from_count;
           }
 
@@ -200,13 +191,9 @@ module _ (s : List ℕ) where
   unfolding directory
   two_places p q =
       record {
-        same_refusal = λ r e. refusals (asked (checks s)) r e;
-        same_count = λ t u e g. ap (λ (x : Sheets). x.count) (told_by p t e).1 ∙ sym (ap (λ (x : Sheets). x.count) (told_by q u g).1);
+        same_refusal = λ r e. sym (ap (unless (sheets_of s sheets q)) (unless_refused (sheets_of s sheets p) (asked (checks s)) r e));
+        same_count = λ t u e g. ap (λ (x : Sheets). x.count) (told_by p t e) ∙ sym (ap (λ (x : Sheets). x.count) (told_by q u g));
       }
-    where
-      refusals : (o : Option Refusal) (r : Refusal) → answer_by s p o ≡ Refused r → answer_by s q o ≡ Refused r
-      refusals none r e = cc
-      refusals (some t) r e = cc
 
 -- the checks, asked from the top
 abbrev rows : (t u v : Bool) → (fault : ℕ) → (sheet bracket : Option ℕ) → Option Refusal
@@ -214,35 +201,31 @@ rows t u v fault sheet bracket =
     pick t
     (pick u
     (pick v
-    (pick (not (is_some sheet)) (pick (not (is_some bracket)) none (some (BofEofUnpaired (or_zero bracket)))) (some (BoundSheetStart (or_zero sheet))))
-    (some WorkbookBofMissing))
-    (some (BiffRecordUnreadable fault)))
-    (some StreamTooLarge)
+    (pick (is_none sheet) (pick (is_none bracket) None (Some (BofEofUnpaired (unwrap_or bracket 0)))) (Some (BoundSheetStart (unwrap_or sheet 0))))
+    (Some WorkbookBofMissing))
+    (Some (BiffRecordUnreadable fault)))
+    (Some StreamTooLarge)
 
-rows_28 : (t u v : Bool) (fault : ℕ) (sheet bracket : Option ℕ) (p : ℕ) → rows t u v fault sheet bracket ≡ some (BoundSheetStart p) → sheet ≡ some p
+rows_28 : (t u v : Bool) (fault : ℕ) (sheet bracket : Option ℕ) (p : ℕ) → rows t u v fault sheet bracket ≡ Some (BoundSheetStart p) → sheet ≡ Some p
 unfolding pick
-rows_28 true true true fault none none p e = cc
-rows_28 true true true fault none (some q) p e = cc
-rows_28 true true true fault (some q) bracket p e = cc
+rows_28 true true true fault None None p e = cc
+rows_28 true true true fault None (Some q) p e = cc
+rows_28 true true true fault (Some q) bracket p e = cc
 rows_28 true true false fault sheet bracket p e = cc
 rows_28 true false v fault sheet bracket p e = cc
 rows_28 false u v fault sheet bracket p e = cc
 
-rows_29 : (t u v : Bool) (fault : ℕ) (sheet bracket : Option ℕ) (p : ℕ) → rows t u v fault sheet bracket ≡ some (BofEofUnpaired p)
-    → (sheet ≡ none) × (bracket ≡ some p)
+rows_29 : (t u v : Bool) (fault : ℕ) (sheet bracket : Option ℕ) (p : ℕ) → rows t u v fault sheet bracket ≡ Some (BofEofUnpaired p)
+    → (sheet ≡ None) × (bracket ≡ Some p)
 unfolding pick
-rows_29 true true true fault none none p e = (refl, cc)
-rows_29 true true true fault none (some q) p e = (refl, cc)
-rows_29 true true true fault (some q) bracket p e = (cc, cc)
+rows_29 true true true fault None None p e = (refl, cc)
+rows_29 true true true fault None (Some q) p e = (refl, cc)
+rows_29 true true true fault (Some q) bracket p e = (cc, cc)
 rows_29 true true false fault sheet bracket p e = (cc, cc)
 rows_29 true false v fault sheet bracket p e = (cc, cc)
 rows_29 false u v fault sheet bracket p e = (cc, cc)
 
 module _ (s : List ℕ) (place : ℕ) where
-  asked_refused : (o : Option Refusal) (r : Refusal) → answer_by s place o ≡ Refused r → o ≡ some r
-  asked_refused none r e = cc
-  asked_refused (some q) r e = cc
-
   abbrev fits_limit : Bool
   fits_limit = leb (length s) 1073741824
 
@@ -252,31 +235,31 @@ module _ (s : List ℕ) (place : ℕ) where
   abbrev found_unpaired : Option ℕ
   found_unpaired = unpaired (length s) 0 (walk s).records
 
-  refused_by : (r : Refusal) → directory s place ≡ Refused r
-      → rows fits_limit (clean (walk s).ends) (starts_bof (walk s).records) (fault_at (walk s).ends) found_unfit found_unpaired ≡ some r
+  refused_by : (r : Refusal) → directory s place ≡ Err r
+      → rows fits_limit (is_none (walk s).fault) (starts_bof (walk s).records) (unwrap_or (walk s).fault 0) found_unfit found_unpaired ≡ Some r
   unfolding directory asked checks in_order of_sheets
-  refused_by r e = asked_refused (asked (checks s)) r e
+  refused_by r e = sym (unless_refused (sheets_of s (bound_sheets (walk s).records) place) (asked (checks s)) r e)
 
-  by_28 : (p : ℕ) → directory s place ≡ Refused (BoundSheetStart p) → FirstUnfit s p
+  by_28 : (p : ℕ) → directory s place ≡ Err (BoundSheetStart p) → FirstUnfit s p
   by_28 p e =
-      let g = rows_28 fits_limit (clean (walk s).ends) (starts_bof (walk s).records) (fault_at (walk s).ends) found_unfit found_unpaired p
+      let g = rows_28 fits_limit (is_none (walk s).fault) (starts_bof (walk s).records) (unwrap_or (walk s).fault 0) found_unfit found_unpaired p
       (refused_by (BoundSheetStart p) e) in
       let w = first_unfit s (bound_sheets (walk s).records) p g in
       record { before = w.before; this = w.this; behind = w.behind; sheets = w.split; fit = w.fit; unfits = w.unfits; place = w.place }
 
-  by_29 : (p : ℕ) → directory s place ≡ Refused (BofEofUnpaired p)
-      → ((r : BiffRecord) → Memᴰ r (bound_sheets (walk s).records) → Fits s r) × (found_unpaired ≡ some p)
+  by_29 : (p : ℕ) → directory s place ≡ Err (BofEofUnpaired p)
+      → ((r : BiffRecord) → Memᴰ r (bound_sheets (walk s).records) → Fits s r) × (found_unpaired ≡ Some p)
   by_29 p e =
-      let g = rows_29 fits_limit (clean (walk s).ends) (starts_bof (walk s).records) (fault_at (walk s).ends) found_unfit found_unpaired p
+      let g = rows_29 fits_limit (is_none (walk s).fault) (starts_bof (walk s).records) (unwrap_or (walk s).fault 0) found_unfit found_unpaired p
       (refused_by (BofEofUnpaired p) e) in
       (all_fit s (bound_sheets (walk s).records) g.0, g.1)
 
 -- a run that opened: the walk ends cleanly, and the plain stream is written
-module _ (s p scratch output : List ℕ) (told : Report) (scratch' output' : List ℕ) (run : Opens s p scratch output (Opened told) scratch' output') where
+module _ (s p scratch output : List ℕ) (told : Report) (scratch' output' : List ℕ) (run : Opens s p scratch output (Ok told) scratch' output') where
   opened : HasOpened s p output told output'
   opened = has_opened s p scratch output told scratch' output' run
 
-  clean_walk : (walk s).ends ≡ end.Clean
+  clean_walk : (walk s).fault ≡ None
   clean_walk = ends_clean s opened.alone
 
   is_plain : Plain s p output' told

@@ -1,28 +1,27 @@
 -- The BoundSheet8 and BOF records of a walk, taken one after the other.
 -- Assumes nothing.
+use Rattle.std.specs.Int.{from_bool}
+use Rattle.std.specs.Prelude.{None, Some}
 use mathlib.Core.Path.{◌≡◌, refl, sym, ap, ◌∙◌}
 use mathlib.Core.Bool.{Bool, true, false, ◌&&◌, ◌||◌}
 use mathlib.Core.List.{List, [], ◌∷◌}
-use mathlib.Core.Option.{none, some}
-use Prim.Native.Nat.{ℕ, suc, ◌+◌, ◌-◌, ◌≤◌, ◌<◌}
+use Prim.Native.Nat.{ℕ, suc, ◌+◌, ◌≤◌, ◌<◌}
 use native.Mathlib.Omega.{arith}
 use borrow.Author.Tests.{eq-eqb, ne_eqb, le-leb, lt-leb, leb-true}
 use lib.Dec.{eqb, leb}
-use lib.ListN.{length, get_or}
+use lib.ListN.{length}
+use Rattle.std.specs.List.{slice_get}
+use Rattle.std.proofs.Math.Bool.{or-false}
+use Rattle.std.proofs.lemmas.Bool.{false≢true}
 use Rattle.laws.specs.Choice.{pick}
 use Rattle.laws.proofs.Choice.{taken, left, same_or}
 use Rattle.binary_office.specs.declared.Step.TheVariants as step
-use Rattle.binary_office.specs.Walk.{BiffRecord, step_at, walk_at, walk}
+use Rattle.binary_office.specs.declared.BiffRecord.{BiffRecord}
+use Rattle.binary_office.specs.Walk.{step_at, walk_at, walk}
 use Rattle.binary_office.proofs.Walks.{record_within}
 use Rattle.binary_office.proofs.Along.{records_on, records_end_lem, records_fault, along}
 use Rattle.directory.specs.Directory.{is_bound_sheet, is_bof, bound_sheets, start_of, starts, bof_at, unfit}
 use Rattle.directory.specs.Steps.{Follows, Reaches}
-
-pub false_true : {X : Type 0} → false ≡ true → X
-false_true e = let z : ◌≡◌ {A = ℕ} 0 1 = cc in absurd (no z)
-  where
-    no : ◌≡◌ {A = ℕ} 0 1 → ⊥
-    no z = omega arith
 
 pub no_sheets : (rs : List BiffRecord) → rs ≡ [] → bound_sheets rs ≡ []
 unfolding bound_sheets
@@ -33,11 +32,11 @@ unfolding bof_at
 no_bofs rs p e = rw e
 
 -- how many BoundSheet8 records one record more makes
-pub count_more : (r : BiffRecord) (rs : List BiffRecord) → length (bound_sheets (r ∷ rs)) ≡ pick (is_bound_sheet r) 1 0 + length (bound_sheets rs)
+pub count_more : (r : BiffRecord) (rs : List BiffRecord) → length (bound_sheets (r ∷ rs)) ≡ from_bool (is_bound_sheet r) + length (bound_sheets rs)
 unfolding bound_sheets pick
 count_more r rs = go (is_bound_sheet r)
   where
-    go : (t : Bool) → length (pick t (r ∷ bound_sheets rs) (bound_sheets rs)) ≡ pick t 1 0 + length (bound_sheets rs)
+    go : (t : Bool) → length (pick t (r ∷ bound_sheets rs) (bound_sheets rs)) ≡ from_bool t + length (bound_sheets rs)
     go true = omega arith
     go false = omega arith
 
@@ -46,14 +45,13 @@ module _ (s : List ℕ) where
     abbrev here : BiffRecord
     here = record { at = at; id = id; len = len }
 
-    pub sheet_here : id ≡ 0x0085 → Follows s at at len
+    pub sheet_here : id ≡ 0x0085 → Follows s at here
     unfolding bound_sheets
     sheet_here g =
         record {
           first =
               ap bound_sheets (records_on s at id len e)
-              ∙ taken (here ∷ bound_sheets (walk_at s (at + 4 + len)).records) (bound_sheets (walk_at s (at + 4 + len)).records) (eq-eqb id 0x0085 g)
-              ∙ ap (λ (i : ℕ). record { at = at; id = i; len = len } ∷ bound_sheets (walk_at s (at + 4 + len)).records) g;
+              ∙ taken (here ∷ bound_sheets (walk_at s (at + 4 + len)).records) (bound_sheets (walk_at s (at + 4 + len)).records) (eq-eqb id 0x0085 g);
           within = record_within s at id len e;
         }
 
@@ -87,11 +85,7 @@ module _ (s : List ℕ) where
   bof_here p at id len e h =
       bof_opened at id len e p
       ∙ ap (λ (t : Bool). (eqb at p && eqb id 0x0809) || t) (bof_behind p (at + 4 + len) (record_within s at id len e) (omega arith))
-      ∙ or_false (eqb at p && eqb id 0x0809)
-    where
-      or_false : (t : Bool) → (t || false) ≡ t
-      or_false true = refl
-      or_false false = refl
+      ∙ or-false (eqb at p && eqb id 0x0809)
 
   pub reaches_front : Reaches s 0
   reaches_front = record { inside = omega arith; rest = λ p h. refl }
@@ -107,8 +101,8 @@ module _ (s : List ℕ) where
   pub reaches_bof : (p : ℕ) → bof_at (walk s).records p ≡ true → Reaches s p
   reaches_bof p =
       along s (λ (at : ℕ). Reaches s at → bof_at (walk_at s at).records p ≡ true → Reaches s p)
-      (λ at e w g. false_true (sym (no_bofs (walk_at s at).records p (records_end_lem s at e)) ∙ g))
-      (λ at q e w g. false_true (sym (no_bofs (walk_at s at).records p (records_fault s at q e)) ∙ g))
+      (λ at e w g. absurd (false≢true (sym (no_bofs (walk_at s at).records p (records_end_lem s at e)) ∙ g)))
+      (λ at q e w g. absurd (false≢true (sym (no_bofs (walk_at s at).records p (records_fault s at q e)) ∙ g)))
       (λ at id len e again w g.
       same_or at p
       (λ z. rw (← z) w)
@@ -119,50 +113,56 @@ module _ (s : List ℕ) where
 
 -- the search for a record that question 28 refuses, where one BoundSheet8 record stands first
 module _ (s : List ℕ) (rs : List BiffRecord) (sheets rest : List BiffRecord) (r : BiffRecord) (e : sheets ≡ r ∷ rest) where
-  unfit_opened : unfit s rs sheets ≡ pick (leb 4 r.len && bof_at rs (start_of s r)) (unfit s rs rest) (some r.at)
+  unfit_opened : unfit s rs sheets ≡ pick (leb 4 r.len && bof_at rs (start_of s r)) (unfit s rs rest) (Some r.at)
   unfolding unfit
   unfit_opened = ap (unfit s rs) e
 
-  pub unfit_short : r.len < 4 → unfit s rs sheets ≡ some r.at
-  unfit_short h = unfit_opened ∙ left (unfit s rs rest) (some r.at) (rw (lt-leb 4 r.len h))
+  pub unfit_short : r.len < 4 → unfit s rs sheets ≡ Some r.at
+  unfit_short h = unfit_opened ∙ left (unfit s rs rest) (Some r.at) (rw (lt-leb 4 r.len h))
 
   module _ (h : 4 ≤ r.len) where
-    pub unfit_start : bof_at rs (start_of s r) ≡ false → unfit s rs sheets ≡ some r.at
-    unfit_start g = unfit_opened ∙ left (unfit s rs rest) (some r.at) (rw (le-leb 4 r.len h, g))
+    pub unfit_start : bof_at rs (start_of s r) ≡ false → unfit s rs sheets ≡ Some r.at
+    unfit_start g = unfit_opened ∙ left (unfit s rs rest) (Some r.at) (rw (le-leb 4 r.len h, g))
 
     pub fit : bof_at rs (start_of s r) ≡ true → unfit s rs sheets ≡ unfit s rs rest
-    fit g = unfit_opened ∙ taken (unfit s rs rest) (some r.at) (rw (le-leb 4 r.len h, g))
+    fit g = unfit_opened ∙ taken (unfit s rs rest) (Some r.at) (rw (le-leb 4 r.len h, g))
 
   -- where none is refused
-  pub fit_first : none ≡ unfit s rs sheets → (4 ≤ r.len) × (none ≡ unfit s rs rest)
+  pub fit_first : None ≡ unfit s rs sheets → (4 ≤ r.len) × (None ≡ unfit s rs rest)
   unfolding pick
   fit_first g = go (leb 4 r.len) (bof_at rs (start_of s r)) refl (g ∙ unfit_opened)
     where
-      go : (t u : Bool) → leb 4 r.len ≡ t → none ≡ pick (t && u) (unfit s rs rest) (some r.at) → (4 ≤ r.len) × (none ≡ unfit s rs rest)
+      go : (t u : Bool) → leb 4 r.len ≡ t → None ≡ pick (t && u) (unfit s rs rest) (Some r.at) → (4 ≤ r.len) × (None ≡ unfit s rs rest)
       go true true h k = (leb-true 4 r.len h, k)
       go true false h k = let z : ◌≡◌ {A = ℕ} 0 1 = cc in (omega arith, cc)
       go false u h k = let z : ◌≡◌ {A = ℕ} 0 1 = cc in (omega arith, cc)
 
   -- the starts, and how many there are
-  pub starts_first : get_or (starts s sheets) 0 0 ≡ start_of s r
+  pub starts_first : slice_get (starts s sheets) 0 ≡ Some (start_of s r)
   unfolding starts
-  starts_first = ap (λ (l : List BiffRecord). get_or (starts s l) 0 0) e
+  starts_first = ap (λ (l : List BiffRecord). slice_get (starts s l) 0) e
 
-  pub starts_on : (n : ℕ) → get_or (starts s sheets) (suc n) 0 ≡ get_or (starts s rest) n 0
+  pub starts_on : (n : ℕ) → slice_get (starts s sheets) (suc n) ≡ slice_get (starts s rest) n
   unfolding starts
-  starts_on n = ap (λ (l : List BiffRecord). get_or (starts s l) (suc n) 0) e
+  starts_on n = ap (λ (l : List BiffRecord). slice_get (starts s l) (suc n)) e
 
-  pub one_fewer : (n : ℕ) → n ≡ length sheets → n - 1 ≡ length rest
+  pub one_fewer : (n : ℕ) → suc n ≡ length sheets → n ≡ length rest
   one_fewer n h = let g = ap length e in omega arith
+
+-- as many starts as records
+pub length_starts : (s : List ℕ) (rs : List BiffRecord) → length (starts s rs) ≡ length rs
+unfolding starts
+length_starts s [] = refl
+length_starts s (r ∷ rs) = ap suc (length_starts s rs)
 
 pub none_left : (sheets : List BiffRecord) → length sheets ≡ 0 → sheets ≡ []
 none_left [] e = refl
 none_left (r ∷ rs) e = let z : ◌≡◌ {A = ℕ} 0 1 = omega arith in cc
 
-pub none_unfit : (s : List ℕ) (rs sheets : List BiffRecord) → sheets ≡ [] → unfit s rs sheets ≡ none
+pub none_unfit : (s : List ℕ) (rs sheets : List BiffRecord) → sheets ≡ [] → unfit s rs sheets ≡ None
 unfolding unfit
 none_unfit s rs sheets e = ap (unfit s rs) e
 
-pub no_starts : (s : List ℕ) (sheets : List BiffRecord) (n : ℕ) → sheets ≡ [] → get_or (starts s sheets) n 0 ≡ 0
+pub no_starts : (s : List ℕ) (sheets : List BiffRecord) (n : ℕ) → sheets ≡ [] → slice_get (starts s sheets) n ≡ None
 unfolding starts
-no_starts s sheets n e = ap (λ (l : List BiffRecord). get_or (starts s l) n 0) e
+no_starts s sheets n e = ap (λ (l : List BiffRecord). slice_get (starts s l) n) e

@@ -1,27 +1,27 @@
 -- A stream that opens and its plain form have the same directory. The plain form's records are the stream's, with another id for the first FILEPASS alone,
 -- which is no BoundSheet8, BOF or EOF before nor after; and the four bytes of a BoundSheet8 record stand in the clear.
 -- Assumes nothing.
+use Rattle.std.specs.Prelude.{Option, None, Some, Ok, is_none}
 use mathlib.Core.Path.{◌≡◌, refl, sym, ap, ◌∙◌}
-use mathlib.Core.Bool.{Bool, true, false, not, ◌&&◌}
+use mathlib.Core.Bool.{Bool, true, false, ◌&&◌}
 use mathlib.Core.List.{List, [], ◌∷◌, Memᴰ}
-use mathlib.Core.Option.{Option, none, some}
 use Prim.Native.Nat.{ℕ, suc, ◌+◌, ◌-◌, ◌≤◌, ◌<◌, min}
 use native.Mathlib.Omega.{arith}
 use borrow.Author.Tests.{eqb-true, leb-true}
 use lib.Dec.{eqb, leb}
 use lib.ListN.{length, get_or}
 use Rattle.laws.specs.Choice.{pick}
+use Rattle.laws.proofs.Choice.{and_left}
 use Rattle.word.specs.Word.{le32}
-use Rattle.binary_office.specs.declared.WalkEnd.TheVariants as end
-use Rattle.binary_office.specs.Walk.{BiffRecord, walk, records_end, clear_len}
+use Rattle.binary_office.specs.declared.BiffRecord.{BiffRecord}
+use Rattle.binary_office.specs.Walk.{walk, records_end, clear_len}
 use Rattle.binary_office.proofs.Renamed.{renamed}
 use Rattle.file_params.specs.declared.Refusal.{Refusal}
-use Rattle.file_params.specs.Questions.{Question, asked, stream_fits, in_order, starts_bof, is_some, filepass}
+use Rattle.file_params.specs.Questions.{Question, asked, unless, stream_fits, in_order, starts_bof, filepass}
 use Rattle.excel97.specs.Open.{record_at, blanked}
 use Rattle.file_params.proofs.Laws.{none_of_both, first_yes, rest_yes}
 use Rattle.excel97.proofs.SameBounds.{unlocked, own_bytes, same_records}
-use Rattle.directory.specs.declared.Answer.TheVariants.{Told}
-use Rattle.directory.specs.Directory.{is_bound_sheet, bound_sheets, start_of, starts, bof_at, unfit, unpaired, of_sheets, checks, sheets_of, answer_by, directory}
+use Rattle.directory.specs.Directory.{is_bound_sheet, bound_sheets, start_of, starts, bof_at, unfit, unpaired, of_sheets, checks, sheets_of, directory}
 
 -- other ids that tell the same of an id: whether it is BoundSheet8, BOF or EOF
 record Keeps (new : ℕ → ℕ → ℕ) : Type 0 where
@@ -37,12 +37,8 @@ keeps first = record { sheet = told 0x0085 refl refl; bof = told 0x0809 refl ref
     told : (k : ℕ) → eqb 0 k ≡ false → eqb 0x002F k ≡ false → (at id : ℕ) → eqb (unlocked first at id) k ≡ eqb id k
     told k z f at id = go (eqb id 0x002F && blanked first at) refl
       where
-        and_first : (t u : Bool) → (t && u) ≡ true → t ≡ true
-        and_first true u e = refl
-        and_first false u e = e
-
         go : (t : Bool) → (eqb id 0x002F && blanked first at) ≡ t → eqb (pick t 0 id) k ≡ eqb id k
-        go true e = let q : id ≡ 0x002F = eqb-true id 0x002F (and_first (eqb id 0x002F) (blanked first at) e) in rw q (z ∙ sym f)
+        go true e = let q : id ≡ 0x002F = eqb-true id 0x002F (and_left (eqb id 0x002F) (blanked first at) e) in rw q (z ∙ sym f)
         go false e = refl
 
 module _ (new : ℕ → ℕ → ℕ) (k : Keeps new) where
@@ -89,18 +85,18 @@ module _ (new : ℕ → ℕ → ℕ) (k : Keeps new) where
     unfit_renamed (r ∷ rs) f = go (leb 4 r.len) refl (unfit_renamed rs (λ t i. f t (Memᴰ.tail i)))
       where
         go : (t : Bool) → leb 4 r.len ≡ t → unfit d all' (renamed new rs) ≡ unfit s all rs
-            → pick (t && bof_at all' (le32 d (r.at + 4))) (unfit d all' (renamed new rs)) (some r.at)
-            ≡ pick (t && bof_at all (le32 s (r.at + 4))) (unfit s all rs) (some r.at)
+            → pick (t && bof_at all' (le32 d (r.at + 4))) (unfit d all' (renamed new rs)) (Some r.at)
+            ≡ pick (t && bof_at all (le32 s (r.at + 4))) (unfit s all rs) (Some r.at)
         go true e g = rw (f r (Memᴰ.head refl) (leb-true 4 r.len e), same (le32 s (r.at + 4)), g)
         go false e g = refl
 
-    starts_same : (rs : List BiffRecord) → ((r : BiffRecord) → Memᴰ r rs → SameStart r) → unfit s all rs ≡ none → starts d (renamed new rs) ≡ starts s rs
+    starts_same : (rs : List BiffRecord) → ((r : BiffRecord) → Memᴰ r rs → SameStart r) → unfit s all rs ≡ None → starts d (renamed new rs) ≡ starts s rs
     unfolding unfit starts pick
     starts_same [] f e = refl
     starts_same (r ∷ rs) f e = go (leb 4 r.len) (bof_at all (start_of s r)) refl e (starts_same rs (λ t i. f t (Memᴰ.tail i)))
       where
-        go : (t u : Bool) → leb 4 r.len ≡ t → pick (t && u) (unfit s all rs) (some r.at) ≡ none
-            → (unfit s all rs ≡ none → starts d (renamed new rs) ≡ starts s rs)
+        go : (t u : Bool) → leb 4 r.len ≡ t → pick (t && u) (unfit s all rs) (Some r.at) ≡ None
+            → (unfit s all rs ≡ None → starts d (renamed new rs) ≡ starts s rs)
             → le32 d (r.at + 4) ∷ starts d (renamed new rs) ≡ le32 s (r.at + 4) ∷ starts s rs
         go true true e g again = rw (f r (Memᴰ.head refl) (leb-true 4 r.len e), again g)
         go true false e g again = cc
@@ -123,26 +119,26 @@ among (t ∷ rs) r i = go (is_bound_sheet t) refl i (among rs r)
     go false e i again = let k = again i in (Memᴰ.tail k.0, k.1)
 
 -- past all checks none found anything
-module _ (s : List ℕ) (e : asked (checks s) ≡ none) where
-  found_none : (o : Option ℕ) → not (is_some o) ≡ true → o ≡ none
-  found_none none h = refl
-  found_none (some p) h = cc
+module _ (s : List ℕ) (e : asked (checks s) ≡ None) where
+  found_none : (o : Option ℕ) → is_none o ≡ true → o ≡ None
+  found_none None h = refl
+  found_none (Some p) h = cc
 
-  sheets_passed : asked (of_sheets s) ≡ none
+  sheets_passed : asked (of_sheets s) ≡ None
   unfolding checks
-  sheets_passed = (none_of_both (in_order (walk s).ends (walk s).records) (of_sheets s) (rest_yes (stream_fits (length s)) _ e)).1
+  sheets_passed = (none_of_both (in_order (walk s).fault (walk s).records) (of_sheets s) (rest_yes (stream_fits (length s)) _ e)).1
 
-  pub no_unfit : unfit s (walk s).records (bound_sheets (walk s).records) ≡ none
+  pub no_unfit : unfit s (walk s).records (bound_sheets (walk s).records) ≡ None
   unfolding of_sheets
   no_unfit = found_none (unfit s (walk s).records (bound_sheets (walk s).records)) (first_yes _ _ sheets_passed)
 
-  pub no_unpaired : unpaired (length s) 0 (walk s).records ≡ none
+  pub no_unpaired : unpaired (length s) 0 (walk s).records ≡ None
   unfolding of_sheets
   no_unpaired = found_none (unpaired (length s) 0 (walk s).records) (first_yes _ [] (rest_yes _ _ sheets_passed))
 
 -- any bytes that keep headers, clear parts and padding, and are zero where a FILEPASS is zeroed
-module _ (s d : List ℕ) (size : length d ≡ length s) (ended : (walk s).ends ≡ end.Clean)
-    (own : (r : BiffRecord) (o : ℕ) → record_at (walk s).records o ≡ some r → o < r.at + 4 + clear_len r.id r.len → blanked (filepass (walk s).records) o ≡ false
+module _ (s d : List ℕ) (size : length d ≡ length s) (ended : (walk s).fault ≡ None)
+    (own : (r : BiffRecord) (o : ℕ) → record_at (walk s).records o ≡ Some r → o < r.at + 4 + clear_len r.id r.len → blanked (filepass (walk s).records) o ≡ false
     → get_or d o 0 ≡ get_or s o 0)
     (zeroed : (o : ℕ) → o < length s → blanked (filepass (walk s).records) o ≡ true → get_or d o 0 ≡ 0)
     (kept : (o : ℕ) → records_end s ≤ o → o < length s → get_or d o 0 ≡ get_or s o 0) where
@@ -186,7 +182,7 @@ module _ (s d : List ℕ) (size : length d ≡ length s) (ended : (walk s).ends 
       ap (unfit d (walk d).records) same_sheets
       ∙ unfit_renamed new (keeps (filepass all)) s d all (walk d).records same_bof (bound_sheets all) same_start
 
-  same_ends : (walk d).ends ≡ (walk s).ends
+  same_ends : (walk d).fault ≡ (walk s).fault
   same_ends = (same_records s d size ended own zeroed kept).1
 
   same_first : starts_bof (walk d).records ≡ starts_bof all
@@ -199,7 +195,7 @@ module _ (s d : List ℕ) (size : length d ≡ length s) (ended : (walk s).ends 
   unfolding checks in_order of_sheets
   same_checks = rw (size, same_ends, same_first, same_unfit, same_unpaired) refl
 
-  same_told : (place : ℕ) → unfit s all (bound_sheets all) ≡ none → sheets_of d (bound_sheets (walk d).records) place ≡ sheets_of s (bound_sheets all) place
+  same_told : (place : ℕ) → unfit s all (bound_sheets all) ≡ None → sheets_of d (bound_sheets (walk d).records) place ≡ sheets_of s (bound_sheets all) place
   same_told place e =
       ap (λ (rs : List BiffRecord). sheets_of d rs place) same_sheets
       ∙ rw (
@@ -209,8 +205,9 @@ module _ (s d : List ℕ) (size : length d ≡ length s) (ended : (walk s).ends 
 
   pub same_directory : (place : ℕ) → directory d place ≡ directory s place
   unfolding directory
-  same_directory place = ap (λ (qs : List Question). answer_by d place (asked qs)) same_checks ∙ go (asked (checks s)) refl
+  same_directory place =
+      ap (λ (qs : List Question). unless (sheets_of d (bound_sheets (walk d).records) place) (asked qs)) same_checks ∙ go (asked (checks s)) refl
     where
-      go : (o : Option Refusal) → asked (checks s) ≡ o → answer_by d place o ≡ answer_by s place o
-      go none e = ap Told (same_told place (no_unfit s e))
-      go (some r) e = refl
+      go : (o : Option Refusal) → asked (checks s) ≡ o → unless (sheets_of d (bound_sheets (walk d).records) place) o ≡ unless (sheets_of s (bound_sheets all) place) o
+      go None e = ap Ok (same_told place (no_unfit s e))
+      go (Some r) e = refl

@@ -1,10 +1,11 @@
 -- The directory of a book with padding behind it: the same records, and the same bytes at every offset, as there are only zeros past the end. So each check but
 -- the last has the same row, and the last, BOF and EOF, the same answer, with the stream's length for its detail where a BOF is left open.
 -- Assumes nothing.
+use Rattle.std.specs.Option.{unwrap_or}
+use Rattle.std.specs.Prelude.{Option, None, Some, Ok, Err, Result, is_none}
 use mathlib.Core.Path.{◌≡◌, refl, sym, ap, ◌∙◌}
-use mathlib.Core.Bool.{Bool, true, false, not}
+use mathlib.Core.Bool.{Bool, true, false}
 use mathlib.Core.List.{List, [], ◌∷◌, ◌++◌}
-use mathlib.Core.Option.{Option, none, some}
 use Prim.Native.Nat.{ℕ, ◌+◌, ◌-◌, ◌≤◌, ◌<◌}
 use native.Mathlib.Omega.{arith}
 use borrow.Author.Tests.{le-leb}
@@ -12,17 +13,19 @@ use lib.Dec.{eqb}
 use lib.ListN.{length}
 use Rattle.laws.specs.Choice.{pick}
 use Rattle.word.specs.Word.{le32}
-use Rattle.binary_office.specs.Walk.{BiffRecord, zero_bytes, walk_at, walk, remainder}
+use Rattle.binary_office.specs.declared.BiffRecord.{BiffRecord}
+use Rattle.binary_office.specs.Walk.{zero_bytes, walk_at, walk, remainder}
 use Rattle.binary_office.proofs.Walks.{record_within}
 use Rattle.binary_office.proofs.Along.{records_on, records_end_lem, records_fault, along}
 use Rattle.binary_office.proofs.Remainder.{padded_length, padded_byte}
 use Rattle.file_params.specs.declared.Refusal.{Refusal}
 use Rattle.file_params.specs.declared.Refusal.TheVariants.{StreamTooLarge, BiffRecordUnreadable, WorkbookBofMissing, BoundSheetStart, BofEofUnpaired}
 use Rattle.file_params.specs.Refusal.{number}
-use Rattle.file_params.specs.Questions.{asked, in_order, is_some, or_zero}
+use Rattle.file_params.specs.Questions.{asked, unless, in_order}
+use Rattle.file_params.proofs.Laws.{unless_refused}
 use Rattle.excel97.proofs.Padded.{walked}
-use Rattle.directory.specs.declared.Answer.TheVariants.{Told, Refused}
-use Rattle.directory.specs.Directory.{is_bof, is_eof, bound_sheets, start_of, starts, unfit, unpaired, of_sheets, checks, sheets_of, answer_by, directory}
+use Rattle.directory.specs.declared.Sheets.{Sheets}
+use Rattle.directory.specs.Directory.{is_bof, is_eof, bound_sheets, start_of, starts, unfit, unpaired, of_sheets, checks, sheets_of, directory}
 use Rattle.directory.specs.Theorems.{TwoBooks}
 
 -- every record stands before an offset
@@ -41,15 +44,15 @@ before_end s =
 
 -- how BOF and EOF pair up, with one number or another for the stream's length
 data Brackets (n m : ℕ) (d e : Option ℕ) : Type 0 where
-  paired : d ≡ none → e ≡ none → Brackets n m d e
-  stray : (o : ℕ) → o < n → d ≡ some o → e ≡ some o → Brackets n m d e
-  left_open : d ≡ some n → e ≡ some m → Brackets n m d e
+  paired : d ≡ None → e ≡ None → Brackets n m d e
+  stray : (o : ℕ) → o < n → d ≡ Some o → e ≡ Some o → Brackets n m d e
+  left_open : d ≡ Some n → e ≡ Some m → Brackets n m d e
 
 brackets : (n m opened : ℕ) (rs : List BiffRecord) → Before n rs → Brackets n m (unpaired n opened rs) (unpaired m opened rs)
 unfolding unpaired pick
 brackets n m opened [] inside = by (eqb opened 0)
   where
-    by : (t : Bool) → Brackets n m (pick t none (some n)) (pick t none (some m))
+    by : (t : Bool) → Brackets n m (pick t None (Some n)) (pick t None (Some m))
     by true = paired refl refl
     by false = left_open refl refl
 brackets n m opened (r ∷ rs) inside =
@@ -58,8 +61,8 @@ brackets n m opened (r ∷ rs) inside =
     by : (t u v : Bool) → Brackets n m (unpaired n (opened + 1) rs) (unpaired m (opened + 1) rs)
         → Brackets n m (unpaired n (opened - 1) rs) (unpaired m (opened - 1) rs) → Brackets n m (unpaired n opened rs) (unpaired m opened rs)
         → Brackets n m
-        (pick t (unpaired n (opened + 1) rs) (pick u (pick v (some r.at) (unpaired n (opened - 1) rs)) (unpaired n opened rs)))
-        (pick t (unpaired m (opened + 1) rs) (pick u (pick v (some r.at) (unpaired m (opened - 1) rs)) (unpaired m opened rs)))
+        (pick t (unpaired n (opened + 1) rs) (pick u (pick v (Some r.at) (unpaired n (opened - 1) rs)) (unpaired n opened rs)))
+        (pick t (unpaired m (opened + 1) rs) (pick u (pick v (Some r.at) (unpaired m (opened - 1) rs)) (unpaired m opened rs)))
     by true u v a b c = a
     by false true true a b c = stray r.at inside.0 refl refl
     by false true false a b c = b
@@ -67,15 +70,15 @@ brackets n m opened (r ∷ rs) inside =
 
 -- two answers of the checks: the same, or both 29 with the streams' lengths
 data Alike (n m : ℕ) (d e : Option Refusal) : Type 0 where
-  same : d ≡ e → (d ≡ some (BofEofUnpaired n) → ⊥) → Alike n m d e
-  both_open : d ≡ some (BofEofUnpaired n) → e ≡ some (BofEofUnpaired m) → Alike n m d e
+  same : d ≡ e → (d ≡ Some (BofEofUnpaired n) → ⊥) → Alike n m d e
+  both_open : d ≡ Some (BofEofUnpaired n) → e ≡ Some (BofEofUnpaired m) → Alike n m d e
 
 -- the rows, of which the last is by how BOF and EOF pair up
 abbrev rows : (fits whole first sheets : Bool) → (fault sheet : ℕ) → (bracket : Option ℕ) → Option Refusal
 rows fits whole first sheets fault sheet bracket =
-    let last = pick (not (is_some bracket)) none (some (BofEofUnpaired (or_zero bracket))) in
-    let for_sheets = pick sheets last (some (BoundSheetStart sheet)) in
-    pick fits (pick whole (pick first for_sheets (some WorkbookBofMissing)) (some (BiffRecordUnreadable fault))) (some StreamTooLarge)
+    let last = pick (is_none bracket) None (Some (BofEofUnpaired (unwrap_or bracket 0))) in
+    let for_sheets = pick sheets last (Some (BoundSheetStart sheet)) in
+    pick fits (pick whole (pick first for_sheets (Some WorkbookBofMissing)) (Some (BiffRecordUnreadable fault))) (Some StreamTooLarge)
 
 no : ◌≡◌ {A = ℕ} 0 1 → ⊥
 no z = omega arith
@@ -127,38 +130,39 @@ module _ (s : List ℕ) (n : ℕ) (filled : remainder s ≡ []) (most : n ≤ 3)
       (by_rows (length s) (length s + n) true _ _ _ _ _ _ _ (brackets (length s) (length s + n) 0 all (before_end s)))
 
   module _ (place : ℕ) where
-    same_sheets : sheets_of longer (bound_sheets (walk longer).records) place ≡ sheets_of s (bound_sheets all) place
+    abbrev told : Sheets
+    told = sheets_of s (bound_sheets all) place
+
+    abbrev told_longer : Sheets
+    told_longer = sheets_of longer (bound_sheets (walk longer).records) place
+
+    same_sheets : told_longer ≡ told
     same_sheets = rw ((walked s n filled most).records, same_starts (bound_sheets all))
 
-    same_told : (d : Option Refusal) → answer_by longer place d ≡ answer_by s place d
-    same_told none = ap Told same_sheets
-    same_told (some r) = refl
+    same_told : (d : Option Refusal) → unless told_longer d ≡ unless told d
+    same_told d = ap (λ (x : Sheets). unless x d) same_sheets
 
-    refusal_is : {q r : Refusal} → Refused q ≡ Refused r → q ≡ r
+    refusal_is : {q r : Refusal} → ◌≡◌ {A = Result Sheets Refusal} (Err q) (Err r) → q ≡ r
     refusal_is e = cc
 
-    refused_by : (d : Option Refusal) (r : Refusal) → answer_by s place d ≡ Refused r → d ≡ some r
-    refused_by none r e = cc
-    refused_by (some q) r e = ap some (refusal_is e)
-
-    by : (d e : Option Refusal) → directory s place ≡ answer_by s place d → directory longer place ≡ answer_by longer place e → Alike (length s) (length s + n) d e
+    by : (d e : Option Refusal) → directory s place ≡ unless told d → directory longer place ≡ unless told_longer e → Alike (length s) (length s + n) d e
         → TwoBooks s n place
     by d e a b (same q f) =
-        let equal : directory longer place ≡ directory s place = b ∙ same_told e ∙ ap (answer_by s place) (sym q) ∙ sym a in
+        let equal : directory longer place ≡ directory s place = b ∙ same_told e ∙ ap (unless told) (sym q) ∙ sym a in
         record {
           told_to = λ t h. equal ∙ h;
           told_from = λ t h. sym equal ∙ h;
           refused_to = λ r m h. equal ∙ h;
           refused_from = λ r m h. sym equal ∙ h;
           stray = λ o k h. equal ∙ h;
-          left_open = λ h. absurd (f (refused_by d (BofEofUnpaired (length s)) (sym a ∙ h)));
+          left_open = λ h. absurd (f (sym (unless_refused told d (BofEofUnpaired (length s)) (sym a ∙ h))));
         }
     by d e a b (both_open q p) =
-        let x : directory s place ≡ Refused (BofEofUnpaired (length s)) = a ∙ ap (answer_by s place) q in
-        let y : directory longer place ≡ Refused (BofEofUnpaired (length s + n)) = b ∙ ap (answer_by longer place) p in
+        let x : directory s place ≡ Err (BofEofUnpaired (length s)) = a ∙ ap (unless told) q in
+        let y : directory longer place ≡ Err (BofEofUnpaired (length s + n)) = b ∙ ap (unless told_longer) p in
         record {
-          told_to = λ t h. let z : Refused (BofEofUnpaired (length s)) ≡ Told t = sym x ∙ h in cc;
-          told_from = λ t h. let z : Refused (BofEofUnpaired (length s + n)) ≡ Told t = sym y ∙ h in cc;
+          told_to = λ t h. let z : Err (BofEofUnpaired (length s)) ≡ Ok t = sym x ∙ h in cc;
+          told_from = λ t h. let z : Err (BofEofUnpaired (length s + n)) ≡ Ok t = sym y ∙ h in cc;
           refused_to = λ r m h. absurd (m (sym (ap number (refusal_is (sym x ∙ h)))));
           refused_from = λ r m h. absurd (m (sym (ap number (refusal_is (sym y ∙ h)))));
           stray = λ o k h. absurd (not_less o (length s) k (sym (offset_is (refusal_is (sym x ∙ h)))));

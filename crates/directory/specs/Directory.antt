@@ -1,18 +1,16 @@
 -- The directory of sheets: request T-01 of document 02, over the records of MS-XLS named BoundSheet8 (0085), BOF (0809) and EOF (000A), each told by its id alone.
 -- Assumes nothing.
-use Rattle.std.specs.Prelude.{ℕ, ◌+◌, ◌-◌, Bool, false, not, ◌&&◌, ◌||◌, List, [], ◌∷◌, ◌++◌, eqb, leb, ltb, length, get_or}
-use Rattle.std.proofs.Math.Option.{Option, none, some}
+use Rattle.std.specs.Option.{unwrap_or}
+use Rattle.std.specs.Prelude.{ℕ, ◌+◌, ◌-◌, Bool, false, ◌&&◌, ◌||◌, List, [], ◌∷◌, ◌++◌, eqb, leb, length, Option, None, Some, is_none, Result}
+use Rattle.std.specs.List.{slice_get}
 use Rattle.laws.specs.Choice.{pick}
 use Rattle.word.specs.Word.{le32}
-use Rattle.binary_office.specs.Walk.{BiffRecord, walk}
+use Rattle.binary_office.specs.declared.BiffRecord.{BiffRecord}
+use Rattle.binary_office.specs.Walk.{walk}
 use Rattle.file_params.specs.declared.Refusal.{Refusal}
 use Rattle.file_params.specs.declared.Refusal.TheVariants.{BoundSheetStart, BofEofUnpaired}
-use Rattle.file_params.specs.Questions.{Question, ask, asked, stream_fits, in_order, is_some, or_zero}
-use Rattle.directory.specs.declared.Start.{Start}
-use Rattle.directory.specs.declared.Start.TheVariants.{At, Nothing}
+use Rattle.file_params.specs.Questions.{Question, ask, asked, unless, stream_fits, in_order}
 use Rattle.directory.specs.declared.Sheets.{Sheets}
-use Rattle.directory.specs.declared.Answer.{Answer}
-use Rattle.directory.specs.declared.Answer.TheVariants.{Told, Refused}
 
 abbrev pub is_bound_sheet : BiffRecord → Bool
 is_bound_sheet r = eqb r.id 0x0085
@@ -43,15 +41,15 @@ bof_at (r ∷ rs) offset = (eqb r.at offset && is_bof r) || bof_at rs offset
 
 -- the first BoundSheet8 whose body is under 4 bytes or whose start is no such header, by its offset
 unfoldable pub unfit : (stream : List ℕ) → (records sheets : List BiffRecord) → Option ℕ
-unfit stream records [] = none
-unfit stream records (r ∷ rs) = pick (leb 4 r.len && bof_at records (start_of stream r)) (unfit stream records rs) (some r.at)
+unfit stream records [] = None
+unfit stream records (r ∷ rs) = pick (leb 4 r.len && bof_at records (start_of stream r)) (unfit stream records rs) (Some r.at)
 
 -- the first EOF with no open BOF, by its offset, else the stream's length for a BOF that is left open at the end; n is how many are open
 unfoldable pub unpaired : (size n : ℕ) → List BiffRecord → Option ℕ
-unpaired size n [] = pick (eqb n 0) none (some size)
+unpaired size n [] = pick (eqb n 0) None (Some size)
 unpaired size n (r ∷ rs) =
     pick (is_bof r) (unpaired size (n + 1) rs)
-    (pick (is_eof r) (pick (eqb n 0) (some r.at) (unpaired size (n - 1) rs))
+    (pick (is_eof r) (pick (eqb n 0) (Some r.at) (unpaired size (n - 1) rs))
     (unpaired size n rs))
 
 -- of the BoundSheet8 records, and of BOF and EOF
@@ -60,8 +58,8 @@ of_sheets stream =
     let records = (walk stream).records in
     let sheet = unfit stream records (bound_sheets records) in
     let bracket = unpaired (length stream) 0 records in
-    ask (not (is_some sheet)) (BoundSheetStart (or_zero sheet))  -- 28
-    ∷ ask (not (is_some bracket)) (BofEofUnpaired (or_zero bracket))  -- 29
+    ask (is_none sheet) (BoundSheetStart (unwrap_or sheet 0))  -- 28
+    ∷ ask (is_none bracket) (BofEofUnpaired (unwrap_or bracket 0))  -- 29
     ∷ []
 
 -- "Checks: 4, 6 and 7 first; 28 for the first BoundSheet8 whose body is under 4 bytes or whose start is no such header (its offset); then 29 for the first
@@ -69,21 +67,13 @@ of_sheets stream =
 unfoldable pub checks : (stream : List ℕ) → List Question
 checks stream =
     stream_fits (length stream)  -- 4
-    ∷ (in_order (walk stream).ends (walk stream).records  -- 6, 7
+    ∷ (in_order (walk stream).fault (walk stream).records  -- 6, 7
     ++ of_sheets stream)  -- 28, 29
 
--- the start at a place, or none from the count on
-abbrev pub start_at : List ℕ → (place : ℕ) → Start
-start_at ps place = pick (ltb place (length ps)) (At (get_or ps place 0)) Nothing
-
--- how many BoundSheet8 records there are and, for a place from 0 in stream order, the start of that sheet
+-- how many BoundSheet8 records there are and, for a place from 0 in stream order, the start of that sheet, or none from the count on
 abbrev pub sheets_of : (stream : List ℕ) → (sheets : List BiffRecord) → (place : ℕ) → Sheets
-sheets_of stream sheets place = record { count = length sheets; start = start_at (starts stream sheets) place }
-
-abbrev pub answer_by : (stream : List ℕ) → (place : ℕ) → Option Refusal → Answer
-answer_by stream place none = Told (sheets_of stream (bound_sheets (walk stream).records) place)
-answer_by stream place (some r) = Refused r
+sheets_of stream sheets place = record { count = length sheets; start = slice_get (starts stream sheets) place }
 
 -- what `directory` answers
-unfoldable pub directory : (stream : List ℕ) → (place : ℕ) → Answer
-directory stream place = answer_by stream place (asked (checks stream))
+unfoldable pub directory : (stream : List ℕ) → (place : ℕ) → Result Sheets Refusal
+directory stream place = unless (sheets_of stream (bound_sheets (walk stream).records) place) (asked (checks stream))

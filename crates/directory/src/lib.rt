@@ -2,162 +2,101 @@
 // the Rust source.
 #![tactic(auto)]
 
-ghost use Rattle.std.specs.Prelude.{◌≡◌, ◌+◌, ◌^◌, ◌≤◌, ◌<◌, [], eqb, leb, ltb, length, get_or};
-ghost use Rattle.std.proofs.Math.Option.{none};
+ghost use Rattle.std.specs.Prelude.{◌≡◌, ◌+◌, ◌^◌, ◌≤◌, ◌<◌, [], leb, length, None};
+ghost use Rattle.std.specs.List.{slice_get};
 ghost use Rattle.laws.specs.Choice.{pick};
 ghost use Rattle.word.specs.Word.{le32};
 ghost use Rattle.binary_office.specs.Walk.{walk};
-ghost use Rattle.file_params.specs.Questions.{asked};
-ghost use Rattle.directory.specs.declared.Start.TheVariants.{At, Nothing};
-ghost use Rattle.directory.specs.Directory.{bound_sheets, starts, bof_at, unfit, of_sheets, answer_by, directory};
-ghost use Rattle.directory.specs.Steps.{found_of, paired_by, depth, unpaired_by, Counts, Tallies, NextSheet, Reaches};
+ghost use Rattle.file_params.specs.Questions.{asked, unless};
+ghost use Rattle.directory.specs.Directory.{bound_sheets, starts, bof_at, unfit, of_sheets, sheets_of, directory};
+ghost use Rattle.directory.specs.Steps.{paired_by, depth, unpaired_by, tally_of, NextSheet, Reaches};
 
-// The start of the sheet at a place, if there is one.
-#[derive(Clone, Copy)]
-pub enum Start {
-    At(usize),
-    Nothing,
-}
+use binary_office::BiffRecord;
+use file_params::Refusal;
 
-// What is reported of a stream's sheets: how many there are, and the start of the one that was asked for.
-#[derive(Clone, Copy)]
+// What is reported of a stream's sheets: how many there are, and the start of the one that was asked for, if there is
+// one.
+#[derive(Clone, Copy, Debug, PartialEq, Eq)]
 pub struct Sheets {
     pub count: usize,
-    pub start: Start,
+    pub start: Option<usize>,
 }
 
-// What came of asking for a sheet.
-#[derive(Clone, Copy)]
-pub enum Answer {
-    Told(Sheets),
-    Refused(file_params::Refusal),
-}
-
-// How BOF and EOF pair up in the records so far: how many BOF are open, or the offset of an EOF with none open.
-#[derive(Clone, Copy)]
-enum Pairing {
-    Open(usize),
-    Unpaired(usize),
-}
-
-// A walk of the whole stream: how it ends, how many BoundSheet8 records there are, and how BOF and EOF pair up.
-#[derive(Clone, Copy)]
+// A walk of the whole stream: the place of the fault at which it ends, how many BoundSheet8 records there are, and how
+// BOF and EOF pair up: how many BOF are open, or the offset of an EOF with none open.
+#[derive(Clone, Copy, Debug, PartialEq, Eq)]
 struct Tally {
-    end: binary_office::WalkEnd,
+    fault: Option<usize>,
     sheets: usize,
-    pairing: Pairing,
-}
-
-// An offset that was searched for.
-#[derive(Clone, Copy)]
-enum Found {
-    Offset(usize),
-    Nowhere,
-}
-
-// A BoundSheet8 record: the offset of its header, and the length of its body.
-#[derive(Clone, Copy)]
-enum Sheet {
-    Record(usize, u16),
-    Nothing,
+    pairing: Result<usize, usize>,
 }
 
 // How BOF and EOF pair up with one record more.
-fn paired(pairing: Pairing, at: usize, id: u16) -> Pairing
+#[tactic(auto, unfolding(laws::specs::Choice::pick))]
+fn paired(pairing: Result<usize, usize>, at: usize, id: u16) -> Result<usize, usize>
     requires { depth pairing + 1 < 2 ^ 64 }
     ensures { result ≡ paired_by pairing at id }
 {
-    match pairing {
-        Pairing::Unpaired(offset) => Pairing::Unpaired(offset),
-        Pairing::Open(open) => {
-            if id == 0x0809 {
-                return Pairing::Open(open + 1);
-            }
-            if id == 0x000A {
-                if open == 0 {
-                    return Pairing::Unpaired(at);
-                }
-                return Pairing::Open(open - 1);
-            }
-            Pairing::Open(open)
-        }
+    let open = pairing?;
+    match id {
+        0x0809 => Ok(open + 1),
+        0x000A => open.checked_sub(1).ok_or(at),
+        _ => Ok(open),
     }
-}
-
-// 1 for a BoundSheet8 record, 0 for any other.
-fn sheets_in(id: u16) -> usize
-    ensures { result ≡ pick (eqb id 0x0085) 1 0 }
-{
-    if id == 0x0085 { 1 } else { 0 }
 }
 
 // Walks the whole stream, and tallies what questions 6, 28 and 29 are asked of.
 fn tally_records(stream: &[u8]) -> Tally
-    ensures { Tallies stream.now result.end result.sheets result.pairing }
+    ensures { result ≡ tally_of stream.now }
 {
-    let mut at: usize = 0;
-    let mut sheets: usize = 0;
-    let mut pairing = Pairing::Open(0);
-    loop {
-        match binary_office::step_at(stream, at) {
-            binary_office::Step::End => {
-                return Tally {
-                    end: binary_office::WalkEnd::Clean,
-                    sheets,
-                    pairing,
-                };
+    let mut fault = None;
+    let mut sheets = 0;
+    let mut pairing: Result<usize, usize> = Ok(0);
+    for record in binary_office::biff_records(stream, 0) {
+        match record {
+            Ok(next) => {
+                pairing = paired(pairing, next.at, next.id);
+                sheets += usize::from(next.id == 0x0085);
             }
-            binary_office::Step::Fault(offset) => {
-                return Tally {
-                    end: binary_office::WalkEnd::Fault(offset),
-                    sheets,
-                    pairing,
-                };
-            }
-            binary_office::Step::Record(id, len) => {
-                pairing = paired(pairing, at, id);
-                sheets = sheets + sheets_in(id);
-                at = at + 4 + (len as usize);
-            }
+            Err(place) => fault = Some(place),
         }
+    }
+    Tally {
+        fault,
+        sheets,
+        pairing,
     }
 }
 
 // The offset in refusal 29, for a stream of so many bytes whose BOF and EOF pair up as given.
-fn unpaired(pairing: Pairing, size: usize) -> Found
-    ensures { result ≡ found_of (unpaired_by size pairing []) }
+#[tactic(auto, unfolding(laws::specs::Choice::pick, crate::specs::Directory::unpaired))]
+fn unpaired(pairing: Result<usize, usize>, size: usize) -> Option<usize>
+    ensures { result ≡ unpaired_by size pairing [] }
 {
     match pairing {
-        Pairing::Unpaired(offset) => Found::Offset(offset),
-        Pairing::Open(left) => {
-            if left == 0 {
-                return Found::Nowhere;
-            }
-            Found::Offset(size)
-        }
+        Ok(0) => None,
+        Ok(_) => Some(size),
+        Err(offset) => Some(offset),
     }
 }
 
 // The next BoundSheet8 record from the header of a record on.
-fn next_sheet(stream: &[u8], from: usize) -> Sheet
+fn next_sheet(stream: &[u8], from: usize) -> Option<BiffRecord>
     ensures { NextSheet stream.now from result }
 {
-    let mut at = from;
-    loop {
-        match binary_office::step_at(stream, at) {
-            binary_office::Step::Record(id, len) => {
-                if id == 0x0085 {
-                    return Sheet::Record(at, len);
-                }
-                at = at + 4 + (len as usize);
-            }
-            binary_office::Step::Fault(_) => return Sheet::Nothing,
-            binary_office::Step::End => return Sheet::Nothing,
+    for record in binary_office::biff_records(stream, from) {
+        let Ok(next) = record else {
+            return None;
+        };
+        if next.id == 0x0085 {
+            return Some(next);
         }
     }
+    None
 }
 
 // The start of a sheet, from the first four bytes of the body of its BoundSheet8 record.
+#[tactic(auto, unfolding(word::specs::Word::le32))]
 fn start_of(stream: &[u8], body: usize) -> usize
     requires { body + 4 ≤ length stream.now }
     ensures { result ≡ le32 stream.now body }
@@ -171,6 +110,7 @@ fn start_of(stream: &[u8], body: usize) -> usize
 }
 
 // Where a search for an offset begins: at a header that is not past it, or at the front.
+#[tactic(auto, unfolding(laws::specs::Choice::pick))]
 fn begin(from: usize, offset: usize) -> usize
     ensures { result ≡ pick (leb from offset) from 0 }
 {
@@ -182,113 +122,84 @@ fn bof_at(stream: &[u8], from: usize, offset: usize) -> bool
     requires { Reaches stream.now from }
     ensures { result ≡ bof_at (walk stream.now).records offset }
 {
-    let mut at = begin(from, offset);
-    loop {
-        match binary_office::step_at(stream, at) {
-            binary_office::Step::Record(id, len) => {
-                if offset <= at {
-                    return (at == offset) & (id == 0x0809);
-                }
-                at = at + 4 + (len as usize);
-            }
-            binary_office::Step::Fault(_) => return false,
-            binary_office::Step::End => return false,
+    for record in binary_office::biff_records(stream, begin(from, offset)) {
+        let Ok(next) = record else {
+            return false;
+        };
+        if offset <= next.at {
+            return (next.at == offset) & (next.id == 0x0809);
         }
     }
+    false
 }
 
-// Finds the first BoundSheet8 record that question 28 refuses, of so many as there are. The walk's place is kept from
-// one start to the next, and goes back to the front where a start is lower than the one before.
-fn find_unfit(stream: &[u8], sheets: usize) -> Found
+// Finds the first BoundSheet8 record that question 28 refuses, of so many as there are: nothing behind the last is
+// walked. The walk's place is kept from one start to the next, and goes back to the front where a start is lower than
+// the one before.
+fn find_unfit(stream: &[u8], sheets: usize) -> Option<usize>
     requires { sheets ≡ length (bound_sheets (walk stream.now).records) }
-    ensures { result ≡ found_of (unfit stream.now (walk stream.now).records (bound_sheets (walk stream.now).records)) }
+    ensures { result ≡ unfit stream.now (walk stream.now).records (bound_sheets (walk stream.now).records) }
 {
     let mut at: usize = 0;
     let mut from: usize = 0;
-    let mut left = sheets;
-    while 0 < left {
-        let Sheet::Record(header, len) = next_sheet(stream, at) else {
-            return Found::Nowhere;
-        };
-        if len < 4 {
-            return Found::Offset(header);
+    for _ in 0..sheets {
+        let sheet = next_sheet(stream, at)?;
+        if sheet.len < 4 {
+            return Some(sheet.at);
         }
-        let start = start_of(stream, header + 4);
+        let start = start_of(stream, sheet.at + 4);
         if !bof_at(stream, from, start) {
-            return Found::Offset(header);
+            return Some(sheet.at);
         }
         from = start;
-        at = header + 4 + (len as usize);
-        left -= 1;
+        at = sheet.at + 4 + (sheet.len as usize);
     }
-    Found::Nowhere
+    None
 }
 
-// The start of the sheet at a place below the count; 0 from the count on, where `sheet_at` does not use it.
-fn start_at(stream: &[u8], place: usize) -> usize
-    requires { none ≡ unfit stream.now (walk stream.now).records (bound_sheets (walk stream.now).records) }
-    ensures { result ≡ get_or (starts stream.now (bound_sheets (walk stream.now).records)) place 0 }
+// The start of the sheet at a place, of so many: none from the count on.
+fn start_at(stream: &[u8], sheets: usize, place: usize) -> Option<usize>
+    requires all_fit { None ≡ unfit stream.now (walk stream.now).records (bound_sheets (walk stream.now).records) }
+    requires counted { sheets ≡ length (bound_sheets (walk stream.now).records) }
+    ensures { result ≡ slice_get (starts stream.now (bound_sheets (walk stream.now).records)) place }
 {
+    if sheets <= place {
+        return None;
+    }
     let mut at: usize = 0;
-    let mut before = place;
-    loop {
-        let Sheet::Record(header, len) = next_sheet(stream, at) else {
-            return 0;
-        };
-        if before == 0 {
-            return start_of(stream, header + 4);
-        }
-        at = header + 4 + (len as usize);
-        before -= 1;
+    for _ in 0..place {
+        let before = next_sheet(stream, at)?;
+        at = before.at + 4 + (before.len as usize);
     }
+    let sheet = next_sheet(stream, at)?;
+    Some(start_of(stream, sheet.at + 4))
 }
 
-// The sheet at a place, of so many.
-fn sheet_at(stream: &[u8], sheets: usize, place: usize) -> Start
-    requires { none ≡ unfit stream.now (walk stream.now).records (bound_sheets (walk stream.now).records) }
-    ensures { result ≡ pick (ltb place sheets) (At (get_or (starts stream.now (bound_sheets (walk stream.now).records)) place 0)) Nothing }
+// Asks questions 28 and 29 of a stream that was tallied.
+fn ask_sheets(stream: &[u8], tally: Tally, place: usize) -> Result<Sheets, Refusal>
+    requires { tally ≡ tally_of stream.now }
+    ensures { result ≡ unless (sheets_of stream.now (bound_sheets (walk stream.now).records) place) (asked (of_sheets stream.now)) }
 {
-    if place < sheets {
-        return Start::At(start_at(stream, place));
+    if let Some(at) = find_unfit(stream, tally.sheets) {
+        return Err(Refusal::BoundSheetStart(at));
     }
-    Start::Nothing
-}
-
-// Asks questions 28 and 29 of a stream with so many BoundSheet8 records, whose BOF and EOF pair up as given.
-fn ask_sheets(stream: &[u8], sheets: usize, pairing: Pairing, place: usize) -> Answer
-    requires { Counts stream.now sheets pairing }
-    ensures { result ≡ answer_by stream.now place (asked (of_sheets stream.now)) }
-{
-    match find_unfit(stream, sheets) {
-        Found::Offset(at) => Answer::Refused(file_params::Refusal::BoundSheetStart(at)),
-        Found::Nowhere => match unpaired(pairing, stream.len()) {
-            Found::Offset(at) => Answer::Refused(file_params::Refusal::BofEofUnpaired(at)),
-            Found::Nowhere => {
-                let start = sheet_at(stream, sheets, place);
-                Answer::Told(Sheets {
-                    count: sheets,
-                    start,
-                })
-            }
-        },
+    if let Some(at) = unpaired(tally.pairing, stream.len()) {
+        return Err(Refusal::BofEofUnpaired(at));
     }
+    Ok(Sheets {
+        count: tally.sheets,
+        start: start_at(stream, tally.sheets, place),
+    })
 }
 
 // How many sheets a stream has and, for a place from 0 in stream order, where that sheet starts; or a refusal.
-pub fn directory(stream: &[u8], place: usize) -> Answer
+pub fn directory(stream: &[u8], place: usize) -> Result<Sheets, Refusal>
     ensures { result ≡ directory stream.now place }
 {
     if limits::LEGACY_STREAM_READ_CAP < stream.len() {
-        return Answer::Refused(file_params::Refusal::StreamTooLarge);
+        return Err(Refusal::StreamTooLarge);
     }
-    let tallied = tally_records(stream);
-    let end = tallied.end;
-    match survey::check_records(stream, end) {
-        survey::Checked::Refused(refusal) => Answer::Refused(refusal),
-        survey::Checked::Fine => {
-            let sheets = tallied.sheets;
-            let pairing = tallied.pairing;
-            ask_sheets(stream, sheets, pairing, place)
-        }
-    }
+    let tally = tally_records(stream);
+    survey::check_records(stream, tally.fault)?;
+    ask_sheets(stream, tally, place)
 }

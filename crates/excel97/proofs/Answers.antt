@@ -1,10 +1,10 @@
 -- The answer of one run. Questions 1 to 26 are the same for every password that passes the first two, and none of them refuses as question 27 does;
 -- so the run is told by what those questions give, and by the check.
 -- Assumes nothing.
+use Rattle.std.specs.Prelude.{Option, None, Some, Ok, Err, Result}
 use mathlib.Core.Path.{◌≡◌, refl, sym, ap, ◌∙◌}
 use mathlib.Core.Bool.{Bool, true, false}
 use mathlib.Core.List.{List, [], ◌∷◌, ◌++◌, append_assoc}
-use mathlib.Core.Option.{Option, none, some}
 use Prim.Native.Nat.{ℕ, ◌≤◌}
 use borrow.Author.Tests.{le-leb, leb-true}
 use lib.Dec.{leb}
@@ -18,8 +18,6 @@ use Rattle.file_params.specs.Questions.{Question, scratch_need, ask, asked, lent
 use Rattle.file_params.proofs.Laws.{asked_on, asked_stop, from_either, none_of_both}
 use Rattle.file_params.proofs.Tables.{given_passes, stream_number}
 use Rattle.excel97.specs.declared.Report.{Report}
-use Rattle.excel97.specs.declared.Answer.{Answer}
-use Rattle.excel97.specs.declared.Answer.TheVariants.{Opened, Refused}
 use Rattle.excel97.specs.Open.{passes, plain, report, wiped, outcome_by, outcome_with, Opens}
 
 -- questions 1 to 26, as the empty password has them
@@ -36,16 +34,16 @@ same_lent p a b c h e = rw (le-leb (length p) 1024 h, e, empty_fine)
 
 -- what they give, and one question behind them, whose "no" gives w
 abbrev pub decided_by : (w : Refusal) → Option Refusal → Bool → Option Refusal
-decided_by w none t = pick t none (some w)
-decided_by w (some r) t = some r
+decided_by w None t = pick t None (Some w)
+decided_by w (Some r) t = Some r
 
 pub behind : (w : Refusal) (qs : List Question) (t : Bool) → asked (qs ++ (ask t w ∷ [])) ≡ decided_by w (asked qs) t
 unfolding asked
 behind w qs t = go (asked qs) refl
   where
     go : (o : Option Refusal) → o ≡ asked qs → asked (qs ++ (ask t w ∷ [])) ≡ decided_by w o t
-    go none e = asked_on qs (ask t w ∷ []) e
-    go (some r) e = sym (asked_stop qs (ask t w ∷ []) r e)
+    go None e = asked_on qs (ask t w ∷ []) e
+    go (Some r) e = sym (asked_stop qs (ask t w ∷ []) r e)
 
 -- question 27 behind them
 abbrev pub decided : Option Refusal → Bool → Option Refusal
@@ -59,7 +57,7 @@ all_asked stream p scratch output t h e =
     (ap asked (simp append_assoc) ∙ behind WrongPassword (earlier stream scratch output) t)
 
 -- numbers up to 26, and from 6 on
-pub earlier_number : (stream scratch output : List ℕ) (r : Refusal) → asked (earlier stream scratch output) ≡ some r → number r ≤ 26
+pub earlier_number : (stream scratch output : List ℕ) (r : Refusal) → asked (earlier stream scratch output) ≡ Some r → number r ≤ 26
 unfolding lent
 earlier_number stream scratch output r e =
     let asked_first = lent scratch_need [] (length stream) (length scratch) (length output) in
@@ -68,7 +66,7 @@ earlier_number stream scratch output r e =
     (λ g. (stream_number stream r g).1)
     e
 
-pub later_number : (stream : List ℕ) (t : Bool) (r : Refusal) → asked (of_stream stream ++ (ask t WrongPassword ∷ [])) ≡ some r → 6 ≤ number r
+pub later_number : (stream : List ℕ) (t : Bool) (r : Refusal) → asked (of_stream stream ++ (ask t WrongPassword ∷ [])) ≡ Some r → 6 ≤ number r
 later_number stream t r e =
     from_either (of_stream stream) (ask t WrongPassword ∷ []) r (6 ≤ number r)
     (λ g. (stream_number stream r g).0)
@@ -76,12 +74,12 @@ later_number stream t r e =
     e
 
 -- a run, by the refusal that the questions give, where a scratch of `need` bytes is wanted
-pub record Ran (need : ℕ) (stream p scratch output : List ℕ) (d : Option Refusal) (a : Answer) (scratch₁ output₁ : List ℕ) : Type 0 where
+pub record Ran (need : ℕ) (stream p scratch output : List ℕ) (d : Option Refusal) (a : (Result Report Refusal)) (scratch₁ output₁ : List ℕ) : Type 0 where
   pub answered : a ≡ (outcome_by need stream p scratch output d).answer
   pub scratch_left : scratch₁ ≡ (outcome_by need stream p scratch output d).scratch
   pub output_left : output₁ ≡ (outcome_by need stream p scratch output d).output
 
-module _ (stream p scratch output : List ℕ) (a : Answer) (scratch₁ output₁ : List ℕ) where
+module _ (stream p scratch output : List ℕ) (a : (Result Report Refusal)) (scratch₁ output₁ : List ℕ) where
   pub ran : length p ≤ 1024 → well_formed p ≡ true → Opens stream p scratch output a scratch₁ output₁
       → Ran scratch_need stream p scratch output (decided (asked (earlier stream scratch output)) (passes (filepass_body stream) p)) a scratch₁ output₁
   unfolding outcome_with
@@ -91,47 +89,47 @@ module _ (stream p scratch output : List ℕ) (a : Answer) (scratch₁ output₁
 
   -- one that is refused
   pub record Refusing (d : Option Refusal) (r : Refusal) : Type 0 where
-    pub given : d ≡ some r
+    pub given : d ≡ Some r
     pub untouched : output₁ ≡ output
 
-  pub refusing : (d : Option Refusal) → Ran scratch_need stream p scratch output d a scratch₁ output₁ → (r : Refusal) → a ≡ Refused r → Refusing d r
-  refusing none w r e = let g = w.answered in record { given = cc; untouched = cc }
-  refusing (some q) w r e = let g = w.answered in record { given = cc; untouched = w.output_left }
+  pub refusing : (d : Option Refusal) → Ran scratch_need stream p scratch output d a scratch₁ output₁ → (r : Refusal) → a ≡ Err r → Refusing d r
+  refusing None w r e = let g = w.answered in record { given = cc; untouched = cc }
+  refusing (Some q) w r e = let g = w.answered in record { given = cc; untouched = w.output_left }
 
   -- one that opens the stream
   pub record Opening (d : Option Refusal) (x : Report) : Type 0 where
-    pub given : d ≡ none
+    pub given : d ≡ None
     pub told : x ≡ report stream
     pub written : output₁ ≡ plain stream p ++ drop (length stream) output
 
-  pub opening : (d : Option Refusal) → Ran scratch_need stream p scratch output d a scratch₁ output₁ → (x : Report) → a ≡ Opened x → Opening d x
-  opening none w x e = let g = w.answered in record { given = refl; told = cc; written = w.output_left }
-  opening (some q) w x e = let g = w.answered in record { given = cc; told = cc; written = cc }
+  pub opening : (d : Option Refusal) → Ran scratch_need stream p scratch output d a scratch₁ output₁ → (x : Report) → a ≡ Ok x → Opening d x
+  opening None w x e = let g = w.answered in record { given = refl; told = cc; written = w.output_left }
+  opening (Some q) w x e = let g = w.answered in record { given = cc; told = cc; written = cc }
 
 -- the scratch does not depend on the check
 abbrev pub scratch_by : List ℕ → Option Refusal → List ℕ
-scratch_by scratch none = wiped scratch_need scratch
-scratch_by scratch (some r) = pick (leb (number r) 5) scratch (wiped scratch_need scratch)
+scratch_by scratch None = wiped scratch_need scratch
+scratch_by scratch (Some r) = pick (leb (number r) 5) scratch (wiped scratch_need scratch)
 
 pub scratch_by_lem : (stream p scratch output : List ℕ) (c : Option Refusal) (t : Bool)
     → (outcome_by scratch_need stream p scratch output (decided c t)).scratch ≡ scratch_by scratch c
 unfolding pick
-scratch_by_lem stream p scratch output none true = refl
-scratch_by_lem stream p scratch output none false = refl
-scratch_by_lem stream p scratch output (some r) t = refl
+scratch_by_lem stream p scratch output None true = refl
+scratch_by_lem stream p scratch output None false = refl
+scratch_by_lem stream p scratch output (Some r) t = refl
 
 -- a refusal other than 27 is an earlier question's
-pub not_last : (c : Option Refusal) (t : Bool) (r : Refusal) → (r ≡ WrongPassword → ⊥) → decided c t ≡ some r → c ≡ some r
+pub not_last : (c : Option Refusal) (t : Bool) (r : Refusal) → (r ≡ WrongPassword → ⊥) → decided c t ≡ Some r → c ≡ Some r
 unfolding pick
-not_last none true r f e = cc
-not_last none false r f e = absurd (f (cc))
-not_last (some q) t r f e = e
+not_last None true r f e = cc
+not_last None false r f e = absurd (f (cc))
+not_last (Some q) t r f e = e
 
 -- no refusal
-pub none_earlier : (c : Option Refusal) (t : Bool) → decided c t ≡ none → c ≡ none
-none_earlier none t e = refl
-none_earlier (some q) t e = e
+pub none_earlier : (c : Option Refusal) (t : Bool) → decided c t ≡ None → c ≡ None
+none_earlier None t e = refl
+none_earlier (Some q) t e = e
 
 -- past the earlier questions, those of the stream alone are passed
-pub alone_passed : (stream scratch output : List ℕ) → asked (earlier stream scratch output) ≡ none → none ≡ asked (of_stream stream)
+pub alone_passed : (stream scratch output : List ℕ) → asked (earlier stream scratch output) ≡ None → None ≡ asked (of_stream stream)
 alone_passed stream scratch output e = sym (none_of_both (lent scratch_need [] (length stream) (length scratch) (length output)) (of_stream stream) e).1

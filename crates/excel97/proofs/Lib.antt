@@ -12,3 +12,4 @@ pub mod ShortBooks
 pub mod Through
 pub mod TwoRuns
 pub mod Unlocked
+pub mod Zeroed

@@ -1,10 +1,11 @@
 -- A padded book has the records and the FILEPASS body of the book without its padding, so the questions have the same answers, each byte of a record is
 -- deciphered alike, and what lies behind the records stays.
 -- Assumes nothing.
+use Rattle.excel97.specs.declared.Report.{Report}
+use Rattle.std.specs.Prelude.{Option, None, Some, Ok, Err, Result}
 use mathlib.Core.Path.{◌≡◌, refl, sym, ap, ◌∙◌}
 use mathlib.Core.Bool.{Bool, true, false}
 use mathlib.Core.List.{List, [], ◌++◌, append_assoc}
-use mathlib.Core.Option.{Option, none, some}
 use Prim.Native.Nat.{ℕ, ◌+◌, ◌-◌, ◌≤◌, ◌<◌}
 use native.Mathlib.Omega.{arith}
 use borrow.Author.Tests.{le-leb}
@@ -13,7 +14,8 @@ use lib.ListN.{length, get_or, take, drop, length-append, get_or-append}
 use lib.Seq.{get_or-append-add, get_or-take, get_or-drop, ext_get_or, take_at}
 use Rattle.laws.specs.Choice.{pick}
 use Rattle.laws.proofs.Choice.{either}
-use Rattle.binary_office.specs.Walk.{BiffRecord, zero_bytes, walk, remainder}
+use Rattle.binary_office.specs.declared.BiffRecord.{BiffRecord}
+use Rattle.binary_office.specs.Walk.{zero_bytes, walk, remainder}
 use Rattle.binary_office.specs.Remainder.{PaddedBy}
 use Rattle.binary_office.proofs.Walks.{record_within}
 use Rattle.binary_office.proofs.Along.{end_within}
@@ -23,8 +25,6 @@ use Rattle.file_params.specs.Questions.{scratch_need, asked, lent, book, of_stre
 use Rattle.block_keys.proofs.Parts.{part_size}
 use Rattle.survey.specs.Survey.{enciphered_bytes, block_keys}
 use Rattle.survey.proofs.Records.{located}
-use Rattle.excel97.specs.declared.Answer.{Answer}
-use Rattle.excel97.specs.declared.Answer.TheVariants.{Opened, Refused}
 use Rattle.excel97.specs.Open.{passes, plain_at, plain, xor_report, rc4_report, report, outcome_by, outcome_with}
 use Rattle.excel97.specs.Padded.{padded_report, Padded, OfAnyPaddedBook}
 use Rattle.excel97.proofs.PlainBytes.{length_plain, plain_at_lem, behind_byte}
@@ -62,8 +62,8 @@ module _ (s : List ℕ) (n : ℕ) (filled : remainder s ≡ []) (most : n ≤ 3)
   same_body = ap (λ (rs : List BiffRecord). body_of longer (filepass rs)) walked.records ∙ by (filepass (walk s).records) refl
     where
       by : (f : Option BiffRecord) → filepass (walk s).records ≡ f → body_of longer f ≡ body_of s f
-      by none e = refl
-      by (some r) e = part_kept s (zero_bytes n) (r.at + 4) r.len (record_within s r.at 0x002F r.len (located s 0 (omega arith) r e).stands)
+      by None e = refl
+      by (Some r) e = part_kept s (zero_bytes n) (r.at + 4) r.len (record_within s r.at 0x002F r.len (located s 0 (omega arith) r e).stands)
 
   pub same_questions : of_stream longer ≡ of_stream s
   unfolding of_stream book
@@ -123,16 +123,16 @@ module _ (s : List ℕ) (n : ℕ) (filled : remainder s ≡ []) (most : n ≤ 3)
         let lending = lent_same p (length longer) (length s) (length scratch) (length output) (omega arith) (omega arith) (omega arith) (omega arith) in
         rw (lending, same_questions, same_body)
 
-    by_answer : (d : Option Refusal) (a b : Answer) (scratch₁ output₁ scratch₂ output₂ : List ℕ)
+    by_answer : (d : Option Refusal) (a b : (Result Report Refusal)) (scratch₁ output₁ scratch₂ output₂ : List ℕ)
         → a ≡ (outcome_by scratch_need s p scratch output d).answer → scratch₁ ≡ (outcome_by scratch_need s p scratch output d).scratch
         → output₁ ≡ (outcome_by scratch_need s p scratch output d).output
         → b ≡ (outcome_by scratch_need longer p scratch output d).answer → scratch₂ ≡ (outcome_by scratch_need longer p scratch output d).scratch
         → output₂ ≡ (outcome_by scratch_need longer p scratch output d).output → Padded s output n a b scratch₁ output₁ scratch₂ output₂
-    by_answer none a b scratch₁ output₁ scratch₂ output₂ ea es eo eb et eq =
+    by_answer None a b scratch₁ output₁ scratch₂ output₂ ea es eo eb et eq =
         record {
-          refused_to = λ r e. let z : Opened (report s) ≡ Refused r = sym ea ∙ e in cc;
-          refused_from = λ r e. let z : Opened (report longer) ≡ Refused r = sym eb ∙ e in cc;
-          told = λ x e. let z : report s ≡ x = cc in eb ∙ ap Opened (same_report ∙ ap (padded_report s n) z);
+          refused_to = λ r e. let z : Ok (report s) ≡ Err r = sym ea ∙ e in cc;
+          refused_from = λ r e. let z : Ok (report longer) ≡ Err r = sym eb ∙ e in cc;
+          told = λ x e. let z : report s ≡ x = cc in eb ∙ ap Ok (same_report ∙ ap (padded_report s n) z);
           copied = λ x e. eq ∙ both;
           scratch_alike = et ∙ sym es;
         }
@@ -141,12 +141,12 @@ module _ (s : List ℕ) (n : ℕ) (filled : remainder s ≡ []) (most : n ≤ 3)
         both =
             let front : take (length s) output₁ ≡ plain s p = rw eo (take_at (plain s p) (drop (length s) output) (length s) (length_plain s p)) in
             rw (same_plain p, size, front) (append_assoc (plain s p) (zero_bytes n) (drop (length s + n) output))
-    by_answer (some q) a b scratch₁ output₁ scratch₂ output₂ ea es eo eb et eq =
+    by_answer (Some q) a b scratch₁ output₁ scratch₂ output₂ ea es eo eb et eq =
         record {
           refused_to = λ r e. eb ∙ sym ea ∙ e;
           refused_from = λ r e. ea ∙ sym eb ∙ e;
-          told = λ x e. let z : Refused q ≡ Opened x = sym ea ∙ e in cc;
-          copied = λ x e. let z : Refused q ≡ Opened x = sym ea ∙ e in cc;
+          told = λ x e. let z : Err q ≡ Ok x = sym ea ∙ e in cc;
+          copied = λ x e. let z : Err q ≡ Ok x = sym ea ∙ e in cc;
           scratch_alike = et ∙ sym es;
         }
 

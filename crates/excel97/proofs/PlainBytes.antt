@@ -1,10 +1,10 @@
 -- What a run leaves that opened a stream: the plain stream at the start of the output, which has the stream's bounds, its own bytes in headers, clear parts and
 -- padding, the zeroed FILEPASS, and under RC4 the stream's bytes with the keystream everywhere else.
 -- Assumes nothing.
+use Rattle.std.specs.Prelude.{Option, Some, None}
 use mathlib.Core.Path.{◌≡◌, refl, ap, ◌∙◌}
 use mathlib.Core.Bool.{Bool, true, false, ◌&&◌}
 use mathlib.Core.List.{List, [], ◌∷◌, ◌++◌}
-use mathlib.Core.Option.{Option, some}
 use Prim.Native.Nat.{ℕ, ◌+◌, ◌≤◌, ◌<◌}
 use native.Mathlib.Nat.{zero-add}
 use native.Mathlib.Omega.{arith}
@@ -17,8 +17,8 @@ use Rattle.laws.proofs.Choice.{taken, left, either}
 use Rattle.laws.proofs.Offsets.{length_map_at, get_d_map_at}
 use Rattle.sensitive.specs.Ansi.{ansi}
 use Rattle.binary_office.specs.declared.Step.TheVariants as step
-use Rattle.binary_office.specs.declared.WalkEnd.TheVariants as end
-use Rattle.binary_office.specs.Walk.{BiffRecord, step_at, walk_at, walk, records_end, clear_len}
+use Rattle.binary_office.specs.declared.BiffRecord.{BiffRecord}
+use Rattle.binary_office.specs.Walk.{step_at, walk_at, walk, records_end, clear_len}
 use Rattle.binary_office.proofs.Along.{records_on, records_end_lem, records_fault, end_there, along}
 use Rattle.binary_office.proofs.Walks.{record_within}
 use Rattle.file_params.specs.Questions.{filepass, filepass_body, structure_of, type_of}
@@ -34,23 +34,23 @@ use Rattle.excel97.proofs.Through.{own_byte, other_byte}
 
 -- an offset that a record covers lies in the stream
 module _ (s : List ℕ) where
-  nowhere : (rs : List BiffRecord) → rs ≡ [] → (r : BiffRecord) (o : ℕ) → record_at rs o ≡ some r → o < length s
+  nowhere : (rs : List BiffRecord) → rs ≡ [] → (r : BiffRecord) (o : ℕ) → record_at rs o ≡ Some r → o < length s
   unfolding record_at
   nowhere rs e r o g = let h = ap (λ (ts : List BiffRecord). record_at ts o) e in let z : ◌≡◌ {A = ℕ} 0 1 = cc in omega arith
 
-  in_first : (t r : BiffRecord) (rs : List BiffRecord) (o : ℕ) → t.at + 4 + t.len ≤ length s → (record_at rs o ≡ some r → o < length s)
-      → record_at (t ∷ rs) o ≡ some r → o < length s
+  in_first : (t r : BiffRecord) (rs : List BiffRecord) (o : ℕ) → t.at + 4 + t.len ≤ length s → (record_at rs o ≡ Some r → o < length s)
+      → record_at (t ∷ rs) o ≡ Some r → o < length s
   unfolding record_at pick
   in_first t r rs o h f g = go (leb t.at o) (ltb o (t.at + 4 + t.len)) refl g
     where
-      go : (a b : Bool) → ltb o (t.at + 4 + t.len) ≡ b → pick (a && b) (some t) (record_at rs o) ≡ some r → o < length s
+      go : (a b : Bool) → ltb o (t.at + 4 + t.len) ≡ b → pick (a && b) (Some t) (record_at rs o) ≡ Some r → o < length s
       go true true e g = let k = ltb-true o (t.at + 4 + t.len) e in omega arith
       go true false e g = f g
       go false b e g = f g
 
-  pub in_stream : (r : BiffRecord) (o : ℕ) → record_at (walk s).records o ≡ some r → o < length s
+  pub in_stream : (r : BiffRecord) (o : ℕ) → record_at (walk s).records o ≡ Some r → o < length s
   in_stream =
-      along s (λ (at : ℕ). (r : BiffRecord) (o : ℕ) → record_at (walk_at s at).records o ≡ some r → o < length s)
+      along s (λ (at : ℕ). (r : BiffRecord) (o : ℕ) → record_at (walk_at s at).records o ≡ Some r → o < length s)
       (λ at e. nowhere (walk_at s at).records (records_end_lem s at e))
       (λ at p e. nowhere (walk_at s at).records (records_fault s at p e))
       (λ at id len e again r o g.
@@ -60,7 +60,7 @@ module _ (s : List ℕ) where
       (omega arith)
 
   -- and every offset of a stream that is walked to its end lies in a record or in the padding
-  pub covered : (walk s).ends ≡ end.Clean → (o : ℕ) → o < length s → Place s o
+  pub covered : (walk s).fault ≡ None → (o : ℕ) → o < length s → Place s o
   covered clean o h =
       along s (λ (at : ℕ). Reached s at → at ≤ o → Place s o)
       (λ at e w k. at_end at e k (reached_end s at w (records_end_lem s at e)))
@@ -105,8 +105,8 @@ module _ (s p : List ℕ) where
   padding_byte o h k = plain_at_lem o k ∙ behind_byte o (get_or s o 0) h
 
   -- a byte of a record that is not zeroed
-  module _ (r : BiffRecord) (o : ℕ) (e : record_at (walk s).records o ≡ some r) (g : blanked (filepass (walk s).records) o ≡ false) where
-    record_byte : get_or (plain s p) o 0 ≡ in_record (plain_byte (filepass_body s) p) (some r) o (get_or s o 0)
+  module _ (r : BiffRecord) (o : ℕ) (e : record_at (walk s).records o ≡ Some r) (g : blanked (filepass (walk s).records) o ≡ false) where
+    record_byte : get_or (plain s p) o 0 ≡ in_record (plain_byte (filepass_body s) p) (Some r) o (get_or s o 0)
     unfolding plain_at
     record_byte =
         plain_at_lem o (in_stream s r o e)
@@ -135,7 +135,7 @@ module _ (s p : List ℕ) where
       go true f = absurd (f refl)
       go false f = refl
 
-  module _ (output output' : List ℕ) (x : Report) (clean : (walk s).ends ≡ end.Clean) (told : x ≡ report s) (written : output' ≡ plain s p ++ drop (length s) output) where
+  module _ (output output' : List ℕ) (x : Report) (clean : (walk s).fault ≡ None) (told : x ≡ report s) (written : output' ≡ plain s p ++ drop (length s) output) where
     at_start : take (length s) output' ≡ plain s p
     at_start = rw written (take_at (plain s p) (drop (length s) output) (length s) length_plain)
 

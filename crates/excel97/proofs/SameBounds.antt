@@ -1,12 +1,12 @@
 -- The walk of the plain stream is that of the stream's own, in which the first FILEPASS has id 0000: at each header that the walk reaches, the plain stream
 -- has the same length and, save there, the same id. So it has the same record bounds.
 -- Assumes nothing.
+use Rattle.std.specs.Prelude.{Option, None, Some}
 use mathlib.Core.Path.{◌≡◌, refl, sym, ap, ◌∙◌}
 use mathlib.Core.Bool.{Bool, true, false, ◌&&◌}
 use mathlib.Core.List.Memᴰ
 use mathlib.Core.List.{List, [], ◌∷◌, Memᴰ}
 use mathlib.Core.Logic.{inl, inr}
-use mathlib.Core.Option.{Option, none, some}
 use Prim.Native.Nat.{ℕ, ◌+◌, ◌≤◌, ◌<◌}
 use native.Mathlib.Omega.{arith}
 use borrow.Author.Tests.{eq-eqb, ne_eqb}
@@ -14,11 +14,10 @@ use lib.Dec.{eqb}
 use lib.ListN.{length, get_or, get_or-eq_default}
 use Rattle.laws.specs.Choice.{pick}
 use Rattle.laws.proofs.Choice.{taken, left, either, same_or}
-use Rattle.binary_office.specs.declared.Field16.TheVariants as two
 use Rattle.binary_office.specs.declared.Step.TheVariants as step
-use Rattle.binary_office.specs.declared.WalkEnd.TheVariants as end
 use Rattle.binary_office.specs.Fields.{le16_at}
-use Rattle.binary_office.specs.Walk.{BiffRecord, step_at, walk_at, walk, records_end, clear_len}
+use Rattle.binary_office.specs.declared.BiffRecord.{BiffRecord}
+use Rattle.binary_office.specs.Walk.{step_at, walk_at, walk, records_end, clear_len}
 use Rattle.binary_office.proofs.Headers.{le16_is, le16_value}
 use Rattle.binary_office.proofs.Walks.{record_there, record_within}
 use Rattle.binary_office.proofs.Along.{records_on, records_end_lem, records_fault, along}
@@ -62,8 +61,8 @@ module _ (s : List ℕ) where
     sits_on (passed g) = passed (λ o h. g o (omega arith))
 
     before_next : (w : Option BiffRecord) → filepass (walk_at s (at + 4 + len)).records ≡ w → (o : ℕ) → o < at + 4 + len → blanked w o ≡ false
-    before_next none g o k = refl
-    before_next (some r) g o k = let h = (located s (at + 4 + len) (record_within s at id len e) r g).from in blank_before r o (omega arith)
+    before_next None g o k = refl
+    before_next (Some r) g o k = let h = (located s (at + 4 + len) (record_within s at id len e) r g).from in blank_before r o (omega arith)
 
     -- the length of a record is not zeroed
     length_kept : Sits f at → (o : ℕ) → at + 2 ≤ o → o < at + 4 → blanked f o ≡ false
@@ -85,7 +84,7 @@ module _ (s : List ℕ) where
   none_zeroed f at e (passed g) o h = g o h
 
   abbrev Behind : ℕ → Type 0
-  Behind o = (record_at (walk s).records o ≡ none) × (blanked (filepass (walk s).records) o ≡ false)
+  Behind o = (record_at (walk s).records o ≡ None) × (blanked (filepass (walk s).records) o ≡ false)
 
   nothing_left : (at : ℕ) → (walk_at s at).records ≡ [] → Reached s at → Sits (filepass (walk s).records) at → (o : ℕ) → records_end s ≤ o → Behind o
   nothing_left at e w f o h =
@@ -104,8 +103,8 @@ module _ (s : List ℕ) where
       (ahead refl)
 
   -- any bytes that keep headers, clear parts and padding, and are zero where a FILEPASS is zeroed
-  module _ (d : List ℕ) (size : length d ≡ length s) (clean : (walk s).ends ≡ end.Clean)
-      (own : (r : BiffRecord) (o : ℕ) → record_at (walk s).records o ≡ some r → o < r.at + 4 + clear_len r.id r.len → blanked (filepass (walk s).records) o ≡ false
+  module _ (d : List ℕ) (size : length d ≡ length s) (clean : (walk s).fault ≡ None)
+      (own : (r : BiffRecord) (o : ℕ) → record_at (walk s).records o ≡ Some r → o < r.at + 4 + clear_len r.id r.len → blanked (filepass (walk s).records) o ≡ false
       → get_or d o 0 ≡ get_or s o 0)
       (zeroed : (o : ℕ) → o < length s → blanked (filepass (walk s).records) o ≡ true → get_or d o 0 ≡ 0)
       (kept : (o : ℕ) → records_end s ≤ o → o < length s → get_or d o 0 ≡ get_or s o 0) where
@@ -134,7 +133,7 @@ module _ (s : List ℕ) where
       zero_id : id ≡ 0x002F → first ≡ filepass (walk_at s at).records → (blanked first at ≡ true) × (0 ≡ le16 d at)
       zero_id q g =
           let m = record_within s at id len e in
-          let i : first ≡ some (record { at = at; id = id; len = len }) = g ∙ filepass_here s at id len e q in
+          let i : first ≡ Some (record { at = at; id = id; len = len }) = g ∙ filepass_here s at id len e q in
           let a : blanked first at ≡ true = rw i (blank_id (record { at = at; id = id; len = len }) at (omega arith) (omega arith)) in
           let b : blanked first (at + 1) ≡ true = rw i (blank_id (record { at = at; id = id; len = len }) (at + 1) (omega arith) (omega arith)) in
           (a, sym (rw (zeroed at (omega arith) a, zeroed (at + 1) (omega arith) b)))
@@ -154,7 +153,7 @@ module _ (s : List ℕ) where
           neither true = refl
           neither false = refl
 
-      header_there : (two.Value (unlocked first at id) ≡ le16_at d at) × (two.Value len ≡ le16_at d (at + 2))
+      header_there : (Some (unlocked first at id) ≡ le16_at d at) × (Some len ≡ le16_at d (at + 2))
       header_there =
           let m = record_within s at id len e in
           (le16_value d at (unlocked first at id) (omega arith) (same_id f), le16_value d (at + 2) len (omega arith) same_length)
@@ -191,7 +190,7 @@ module _ (s : List ℕ) where
     from_end o h = either (length s) o (λ k. get_or-eq_default d 0 (omega arith) ∙ sym (get_or-eq_default s 0 k)) (kept o h)
 
     -- the walk of those bytes is the stream's own, in which the first FILEPASS has id 0000
-    pub same_records : ((walk d).records ≡ renamed (unlocked first) (walk s).records) × ((walk d).ends ≡ (walk s).ends)
+    pub same_records : ((walk d).records ≡ renamed (unlocked first) (walk s).records) × ((walk d).fault ≡ (walk s).fault)
     same_records =
         walk_renamed s d size (unlocked first) (λ (at : ℕ). Reached s at × Sits first at)
         (λ at id len k e. (reached_on s at id len k.0 e, sits_on first at id len e k.1))
@@ -200,5 +199,5 @@ module _ (s : List ℕ) where
         (λ at k e o h. let here = reached_end s at k.0 (records_end_lem s at e) in from_end o (omega arith))
         (reached_none s, ahead refl)
 
-    pub same_bounds : (bounds_of (walk d).records ≡ bounds_of (walk s).records) × ((walk d).ends ≡ (walk s).ends)
+    pub same_bounds : (bounds_of (walk d).records ≡ bounds_of (walk s).records) × ((walk d).fault ≡ (walk s).fault)
     same_bounds = (ap bounds_of same_records.0 ∙ bounds_kept (unlocked first) (walk s).records, same_records.1)

@@ -1,10 +1,11 @@
 -- Where the scratch is as long as is wanted, question 3 is passed, so that the questions give the same refusal, or none, as where no scratch is wanted. And once that
 -- refusal is known, answer and output do not depend on the scratch.
 -- Assumes nothing.
+use Rattle.excel97.specs.declared.Report.{Report}
+use Rattle.std.specs.Prelude.{Option, None, Some, Result}
 use mathlib.Core.Path.{◌≡◌, refl, sym, ◌∙◌}
 use mathlib.Core.Bool.{Bool, true, false, not}
 use mathlib.Core.List.{List, [], ◌∷◌, ◌++◌}
-use mathlib.Core.Option.{Option, none, some}
 use Prim.Native.Nat.{ℕ, ◌≤◌, ◌<◌}
 use native.Mathlib.Omega.{arith}
 use borrow.Author.Tests.{le-leb, lt-leb, leb-true, eqb-false, not-true}
@@ -19,7 +20,6 @@ use Rattle.file_params.specs.Refusal.{number}
 use Rattle.file_params.specs.Questions.{Question, scratch_need, ask, asked, stream_fits, lent, of_stream, questions, filepass_body}
 use Rattle.file_params.proofs.Laws.{from_either}
 use Rattle.file_params.proofs.Tables.{given_passes}
-use Rattle.excel97.specs.declared.Answer.{Answer}
 use Rattle.excel97.specs.Open.{passes, wiped, outcome_with, OpensWith, Opens}
 use Rattle.excel97.proofs.Answers.{later_number, Ran, refusing}
 use Rattle.excel97.specs.Scratch.{OfLent, Wants, Scratches}
@@ -29,7 +29,7 @@ abbrev given : (stream password output : List ℕ) → Option Refusal
 given stream password output = asked (questions 0 stream password [] output (passes (filepass_body stream) password))
 
 -- and where there is as much of it as is wanted
-lent_enough : (need : ℕ) (stream password scratch output : List ℕ) (a : Answer) (scratch₁ output₁ : List ℕ) → need ≤ length scratch
+lent_enough : (need : ℕ) (stream password scratch output : List ℕ) (a : (Result Report Refusal)) (scratch₁ output₁ : List ℕ) → need ≤ length scratch
     → OpensWith need stream password scratch output a scratch₁ output₁ → Ran need stream password scratch output (given stream password output) a scratch₁ output₁
 unfolding outcome_with questions lent
 lent_enough need stream password scratch output a scratch₁ output₁ room run =
@@ -40,37 +40,37 @@ lent_enough need stream password scratch output a scratch₁ output₁ room run 
 
 -- two runs with the same refusal, whatever each wants and is lent for a scratch
 alike_by : (stream password output : List ℕ) (need more : ℕ) (scratch longer : List ℕ) (d : Option Refusal)
-    (a b : Answer) (scratch₁ output₁ longer₁ output₂ : List ℕ)
+    (a b : (Result Report Refusal)) (scratch₁ output₁ longer₁ output₂ : List ℕ)
     → Ran need stream password scratch output d a scratch₁ output₁ → Ran more stream password longer output d b longer₁ output₂
     → (a ≡ b) × (output₁ ≡ output₂)
-alike_by stream password output need more scratch longer none a b scratch₁ output₁ longer₁ output₂ x y =
+alike_by stream password output need more scratch longer None a b scratch₁ output₁ longer₁ output₂ x y =
     (x.answered ∙ sym y.answered, x.output_left ∙ sym y.output_left)
-alike_by stream password output need more scratch longer (some r) a b scratch₁ output₁ longer₁ output₂ x y =
+alike_by stream password output need more scratch longer (Some r) a b scratch₁ output₁ longer₁ output₂ x y =
     (x.answered ∙ sym y.answered, x.output_left ∙ sym y.output_left)
 
 -- the scratch of one run, by its answer
-module _ (need : ℕ) (stream password scratch output : List ℕ) (a : Answer) (scratch₁ output₁ : List ℕ) where
+module _ (need : ℕ) (stream password scratch output : List ℕ) (a : (Result Report Refusal)) (scratch₁ output₁ : List ℕ) where
   untouched_by : (d : Option Refusal) → Ran need stream password scratch output d a scratch₁ output₁ → OfLent a → scratch₁ ≡ scratch
-  untouched_by none x (r, h, n) = let e = x.answered in cc
-  untouched_by (some q) x (r, h, n) =
+  untouched_by None x (r, h, n) = let e = x.answered in cc
+  untouched_by (Some q) x (r, h, n) =
       let e = x.answered in
       let z : q ≡ r = cc in
       x.scratch_left ∙ taken scratch (wiped need scratch) (le-leb (number q) 5 (rw z n))
 
   zero_by : (d : Option Refusal) → Ran need stream password scratch output d a scratch₁ output₁ → (OfLent a → ⊥) → scratch₁ ≡ wiped need scratch
-  zero_by none x f = x.scratch_left
-  zero_by (some q) x f = x.scratch_left ∙ left scratch (wiped need scratch) (go (leb (number q) 5) refl)
+  zero_by None x f = x.scratch_left
+  zero_by (Some q) x f = x.scratch_left ∙ left scratch (wiped need scratch) (go (leb (number q) 5) refl)
     where
       go : (t : Bool) → leb (number q) 5 ≡ t → leb (number q) 5 ≡ false
       go true h = absurd (f (q, x.answered, leb-true (number q) 5 h))
       go false h = h
 
 -- question 3 itself
-module _ (stream password scratch output : List ℕ) (a : Answer) (scratch₁ output₁ : List ℕ) (run : Opens stream password scratch output a scratch₁ output₁) where
+module _ (stream password scratch output : List ℕ) (a : (Result Report Refusal)) (scratch₁ output₁ : List ℕ) (run : Opens stream password scratch output a scratch₁ output₁) where
   abbrev all : Option Refusal
   all = asked (questions scratch_need stream password scratch output (passes (filepass_body stream) password))
 
-  refused_3 : length scratch < 64 → length password ≤ 1024 → well_formed password ≡ true → all ≡ some ScratchShort
+  refused_3 : length scratch < 64 → length password ≤ 1024 → well_formed password ≡ true → all ≡ Some ScratchShort
   unfolding questions lent asked pick
   refused_3 s h e = rw (le-leb (length password) 1024 h, e, lt-leb 64 (length scratch) s) refl
 
@@ -88,7 +88,7 @@ module _ (stream password scratch output : List ℕ) (a : Answer) (scratch₁ ou
   unfolding questions lent asked pick
   without_3 h = rw (le-leb 64 (length scratch) h) refl
 
-  not_3 : 64 ≤ length scratch → (r : Refusal) → all ≡ some r → number r ≡ 3 → ⊥
+  not_3 : 64 ≤ length scratch → (r : Refusal) → all ≡ Some r → number r ≡ 3 → ⊥
   not_3 h r e n =
       from_either others later r ⊥
       (λ g. eqb-false (number r) 3 (not-true _ (given_passes (λ (q : Refusal). not (eqb (number q) 3)) others r refl g)) n)

@@ -1,8 +1,8 @@
 -- The loops that write the output record by record: what is written up to a record, and the record itself, is what is written up to the next one.
 -- Assumes nothing.
+use Rattle.std.specs.Prelude.{Option, Some}
 use mathlib.Core.Path.{◌≡◌, refl, sym, ap, ◌∙◌}
 use mathlib.Core.List.{List, [], ◌++◌}
-use mathlib.Core.Option.{Option, some}
 use Prim.Native.Nat.{ℕ, ◌+◌, ◌-◌, ◌≤◌, ◌<◌, min}
 use native.Mathlib.Nat.{not-suc-le-zero}
 use native.Mathlib.Omega.{arith}
@@ -11,7 +11,8 @@ use lib.ListN.{length, get_or, take, drop}
 use Rattle.laws.proofs.Choice.{taken, left, either}
 use Rattle.laws.proofs.Written.{Written, written_join}
 use Rattle.binary_office.specs.declared.Step.TheVariants as step
-use Rattle.binary_office.specs.Walk.{BiffRecord, step_at, walk_at, clear_len}
+use Rattle.binary_office.specs.declared.BiffRecord.{BiffRecord}
+use Rattle.binary_office.specs.Walk.{step_at, walk_at, clear_len}
 use Rattle.xor_obfuscation.specs.declared.Way.{Way}
 use Rattle.xor_obfuscation.specs.Xor.{transformed, Transforms}
 use Rattle.block_keys.proofs.Parts.{written_by, lent_part, part_size}
@@ -22,23 +23,23 @@ use Rattle.excel97.proofs.Records.{Reached, in_none, record_here}
 
 -- a byte of a record: its own in header and clear part, else deciphered
 module _ (f : BiffRecord → ℕ → ℕ → ℕ) (r : BiffRecord) (o x : ℕ) where
-  pub own_byte : o < r.at + 4 + clear_len r.id r.len → in_record f (some r) o x ≡ x
+  pub own_byte : o < r.at + 4 + clear_len r.id r.len → in_record f (Some r) o x ≡ x
   own_byte h = taken x (f r o x) (lt-ltb o (r.at + 4 + clear_len r.id r.len) h)
 
-  pub other_byte : r.at + 4 + clear_len r.id r.len ≤ o → in_record f (some r) o x ≡ f r o x
+  pub other_byte : r.at + 4 + clear_len r.id r.len ≤ o → in_record f (Some r) o x ≡ f r o x
   other_byte h = left x (f r o x) (le-ltb o (r.at + 4 + clear_len r.id r.len) h)
 
 module _ (s : List ℕ) (f : BiffRecord → ℕ → ℕ → ℕ) (at id len : ℕ) (w : Reached s at) (e : step_at s at ≡ step.Record id len) (d d₁ d₂ : List ℕ)
     (before : Written (through_at s f) 0 at d d₁) where
-  here : (o : ℕ) → at ≤ o → o < at + 4 + len → through_at s f o ≡ in_record f (some (record { at = at; id = id; len = len })) o (get_or s o 0)
+  here : (o : ℕ) → at ≤ o → o < at + 4 + len → through_at s f o ≡ in_record f (Some (record { at = at; id = id; len = len })) o (get_or s o 0)
   here o h k = ap (λ (r : Option BiffRecord). in_record f r o (get_or s o 0)) (record_here s at id len w e o h k)
 
   -- a record that is written whole
-  through_record : Written (λ (o : ℕ). in_record f (some (record { at = at; id = id; len = len })) o (get_or s o 0)) at (at + 4 + len) d₁ d₂
+  through_record : Written (λ (o : ℕ). in_record f (Some (record { at = at; id = id; len = len })) o (get_or s o 0)) at (at + 4 + len) d₁ d₂
       → Written (through_at s f) 0 (at + 4 + len) d d₂
   through_record v =
       written_join (through_at s f) 0 at (at + 4 + len) d d₁ d₂ (omega arith) (omega arith) before
-      (written_by (λ (o : ℕ). in_record f (some (record { at = at; id = id; len = len })) o (get_or s o 0)) (through_at s f) at (at + 4 + len) d₁ d₂
+      (written_by (λ (o : ℕ). in_record f (Some (record { at = at; id = id; len = len })) o (get_or s o 0)) (through_at s f) at (at + 4 + len) d₁ d₂
       (λ o h k. sym (here o h k)) v)
 
 -- an output that is too short, and one that has room
@@ -85,7 +86,7 @@ up_to_none f n d = record { same = refl; inside = λ o h. absurd (not-suc-le-zer
 -- a record that is written whole, and some bytes behind it
 module _ (s : List ℕ) (f : BiffRecord → ℕ → ℕ → ℕ) (at id len : ℕ) (w : Reached s at) (e : step_at s at ≡ step.Record id len) (d d₁ d₂ : List ℕ) where
   pub up_to_record : (to : ℕ) → at + 4 + len ≤ to → to ≤ length s → WrittenUpTo (through_at s f) at (length s) d d₁
-      → Written (λ (o : ℕ). in_record f (some (record { at = at; id = id; len = len })) o (get_or s o 0)) at to d₁ d₂
+      → Written (λ (o : ℕ). in_record f (Some (record { at = at; id = id; len = len })) o (get_or s o 0)) at to d₁ d₂
       → WrittenUpTo (through_at s f) (at + 4 + len) (length s) d d₂
   up_to_record to far within p v =
       record {
@@ -127,7 +128,7 @@ module _ (way : Way) (s array d d₁ ys : List ℕ) (at id len : ℕ) (clear sta
   it = record { at = at; id = id; len = len }
 
   abbrev target : ℕ → ℕ
-  target o = in_record (xor_byte way array) (some it) o (get_or s o 0)
+  target o = in_record (xor_byte way array) (Some it) o (get_or s o 0)
 
   least : clear ≤ len
   least = rw ec (clear_within id len)

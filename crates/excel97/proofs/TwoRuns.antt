@@ -1,9 +1,9 @@
 -- Demand 3, over any two runs that the contract of `open` allows: the questions before 27 answer both alike, and past them each is told by its own check.
 -- Assumes nothing.
+use Rattle.std.specs.Prelude.{Option, None, Some, Ok, Err, Result}
 use mathlib.Core.Path.{◌≡◌, refl, sym, ap, ◌∙◌}
 use mathlib.Core.Bool.{Bool, true, false}
 use mathlib.Core.List.{List}
-use mathlib.Core.Option.{Option, none, some}
 use Prim.Native.Nat.{ℕ, ◌≤◌}
 use native.Mathlib.Omega.{arith}
 use lib.ListN.{length, drop}
@@ -16,41 +16,39 @@ use Rattle.file_params.specs.Refusal.{number}
 use Rattle.file_params.specs.Questions.{scratch_need, asked, filepass_body}
 use Rattle.survey.proofs.Told.{ends_clean}
 use Rattle.excel97.specs.declared.Report.{Report}
-use Rattle.excel97.specs.declared.Answer.{Answer}
-use Rattle.excel97.specs.declared.Answer.TheVariants.{Opened, Refused}
 use Rattle.excel97.specs.Open.{passes, plain, report, outcome_by, Opens}
 use Rattle.excel97.specs.Demand3.{Plain, Decided, OfAnyTwoRuns}
 use Rattle.excel97.proofs.Answers.{earlier, Opening, scratch_by, earlier_number, decided, Ran, ran, refusing, opening, scratch_by_lem, not_last, none_earlier, alone_passed}
 use Rattle.excel97.proofs.PlainBytes.{plain_left, length_plain}
 
 -- what the check decides, where no earlier question refuses
-module _ (stream p scratch output : List ℕ) (a : Answer) where
-  by_check : (t : Bool) → passes (filepass_body stream) p ≡ t → a ≡ (outcome_by scratch_need stream p scratch output (decided none t)).answer → Decided stream p a
+module _ (stream p scratch output : List ℕ) (a : (Result Report Refusal)) where
+  by_check : (t : Bool) → passes (filepass_body stream) p ≡ t → a ≡ (outcome_by scratch_need stream p scratch output (decided None t)).answer → Decided stream p a
   unfolding pick
   by_check true e g = record { fails = λ r n h. cc; failed = λ h. (WrongPassword, refl, cc); succeeds = λ told h. e; succeeded = λ h. (report stream, g) }
   by_check false e g = record { fails = λ r n h. e; failed = λ h. (WrongPassword, refl, g); succeeds = λ told h. cc; succeeded = λ h. (report stream, cc) }
 
-  by_questions : (c : Option Refusal) → ((r : Refusal) → c ≡ some r → number r ≤ 26)
+  by_questions : (c : Option Refusal) → ((r : Refusal) → c ≡ Some r → number r ≤ 26)
       → a ≡ (outcome_by scratch_need stream p scratch output (decided c (passes (filepass_body stream) p))).answer
-      → ((r : Refusal) → a ≡ Refused r → number r ≡ 27) → Decided stream p a
-  by_questions none small g f = by_check (passes (filepass_body stream) p) refl g
-  by_questions (some r) small g f = let e = f r g in let h = small r refl in absurd (no e h)
+      → ((r : Refusal) → a ≡ Err r → number r ≡ 27) → Decided stream p a
+  by_questions None small g f = by_check (passes (filepass_body stream) p) refl g
+  by_questions (Some r) small g f = let e = f r g in let h = small r refl in absurd (no e h)
     where
       no : number r ≡ 27 → number r ≤ 26 → ⊥
       no e h = omega arith
 
 -- one run, by what the earlier questions give and by its check
-record Alone (stream p scratch output : List ℕ) (a : Answer) (scratch₁ output₁ : List ℕ) : Type 0 where
-  earlier_refusal : (r : Refusal) → (number r ≡ 27 → ⊥) → a ≡ Refused r → asked (earlier stream scratch output) ≡ some r
-  refusal : (r : Refusal) → asked (earlier stream scratch output) ≡ some r → a ≡ Refused r
-  check : ((r : Refusal) → a ≡ Refused r → number r ≡ 27) → Decided stream p a
+record Alone (stream p scratch output : List ℕ) (a : (Result Report Refusal)) (scratch₁ output₁ : List ℕ) : Type 0 where
+  earlier_refusal : (r : Refusal) → (number r ≡ 27 → ⊥) → a ≡ Err r → asked (earlier stream scratch output) ≡ Some r
+  refusal : (r : Refusal) → asked (earlier stream scratch output) ≡ Some r → a ≡ Err r
+  check : ((r : Refusal) → a ≡ Err r → number r ≡ 27) → Decided stream p a
   scratch_is : scratch₁ ≡ scratch_by scratch (asked (earlier stream scratch output))
-  untouched : (r : Refusal) → a ≡ Refused r → output₁ ≡ output
-  told : (x : Report) → a ≡ Opened x → x ≡ report stream
-  rest : (x : Report) → a ≡ Opened x → drop (length stream) output₁ ≡ drop (length stream) output
-  plain_is : (x : Report) → a ≡ Opened x → Plain stream p output₁ x
+  untouched : (r : Refusal) → a ≡ Err r → output₁ ≡ output
+  told : (x : Report) → a ≡ Ok x → x ≡ report stream
+  rest : (x : Report) → a ≡ Ok x → drop (length stream) output₁ ≡ drop (length stream) output
+  plain_is : (x : Report) → a ≡ Ok x → Plain stream p output₁ x
 
-alone : (stream p scratch output : List ℕ) (a : Answer) (scratch₁ output₁ : List ℕ) → length p ≤ 1024 → well_formed p ≡ true
+alone : (stream p scratch output : List ℕ) (a : (Result Report Refusal)) (scratch₁ output₁ : List ℕ) → length p ≤ 1024 → well_formed p ≡ true
     → Opens stream p scratch output a scratch₁ output₁
     → Alone stream p scratch output a scratch₁ output₁
 alone stream p scratch output a scratch₁ output₁ short fine run =
@@ -76,7 +74,7 @@ alone stream p scratch output a scratch₁ output₁ short fine run =
     this : Ran scratch_need stream p scratch output (decided c t) a scratch₁ output₁
     this = ran stream p scratch output a scratch₁ output₁ short fine run
 
-    opens : (x : Report) → a ≡ Opened x → Opening stream p scratch output a scratch₁ output₁ (decided c t) x
+    opens : (x : Report) → a ≡ Ok x → Opening stream p scratch output a scratch₁ output₁ (decided c t) x
     opens = opening stream p scratch output a scratch₁ output₁ (decided c t) this
 
 pub demand_3 : OfAnyTwoRuns

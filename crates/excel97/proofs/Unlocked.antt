@@ -1,10 +1,11 @@
 -- From what the loops wrote to the plain stream: every byte but the blanked ones went through the lock, and the list of the plain bytes is what stands at
 -- the start of the output.
 -- Assumes nothing.
+use Rattle.std.specs.Prelude.{Option, None, Some, Ok, Err}
+use Rattle.file_params.specs.declared.Refusal.TheVariants.{WrongPassword}
 use mathlib.Core.Path.{◌≡◌, refl, sym, ap, ◌∙◌}
 use mathlib.Core.Bool.{Bool, true, false}
 use mathlib.Core.List.{List, ◌++◌}
-use mathlib.Core.Option.{Option, none, some}
 use Prim.Native.Nat.{ℕ, ◌+◌, ◌-◌, ◌≤◌, ◌<◌, min}
 use native.Mathlib.Nat.{zero-add, le_of_eq}
 use native.Mathlib.Omega.{arith}
@@ -19,15 +20,14 @@ use Rattle.laws.proofs.Choice.{taken, left, stop, skip}
 use Rattle.laws.proofs.Offsets.{length_tabulate, get_d_tabulate, length_map_at, get_d_map_at}
 use Rattle.laws.proofs.Written.{Written, written_all}
 use Rattle.sensitive.specs.Ansi.{ansi}
-use Rattle.binary_office.specs.Walk.{BiffRecord, walk}
+use Rattle.binary_office.specs.declared.BiffRecord.{BiffRecord}
+use Rattle.binary_office.specs.Walk.{walk}
 use Rattle.file_params.specs.Questions.{filepass, filepass_body, type_of, structure_of}
 use Rattle.block_keys.specs.BlockKeys.{schedule_of, block_key, keystream_at, deciphered_at, started_blocks, verified, Decrypts}
 use Rattle.block_keys.specs.Lock.{lock_of, part, salt_of}
 use Rattle.block_keys.specs.declared.Rc4Lock.{Rc4Lock}
 use Rattle.block_keys.specs.declared.Schedule.{Schedule}
-use Rattle.survey.specs.declared.Found.TheVariants as found
 use Rattle.survey.specs.Survey.{block_keys}
-use Rattle.survey.specs.Steps.{found_of}
 use Rattle.xor_obfuscation.specs.declared.Way.TheVariants.{Decrypt}
 use Rattle.excel97.specs.Open.{xor_matches, rc4_matches, array_of, xor_byte, rc4_byte, keystream, plain_byte, record_at, in_record, blanked, plain_at, plain, passes}
 use Rattle.excel97.specs.Steps.{through_at, Blanks, Unlocks}
@@ -35,8 +35,8 @@ use Rattle.excel97.proofs.Blanked.{blank_behind}
 
 -- two ways of deciphering that agree on a byte
 same_in_record : (f g : BiffRecord → ℕ → ℕ → ℕ) (r : Option BiffRecord) (o x : ℕ) → ((q : BiffRecord) → f q o x ≡ g q o x) → in_record f r o x ≡ in_record g r o x
-same_in_record f g none o x h = refl
-same_in_record f g (some q) o x h = rw (h q)
+same_in_record f g None o x h = refl
+same_in_record f g (Some q) o x h = rw (h q)
 
 -- a list by its offsets, from another list's bytes
 listed : (f : ℕ → ℕ → ℕ) (s : List ℕ) → tabulate (λ (o : ℕ). f o (get_or s o 0)) (length s) ≡ map_at f 0 s
@@ -93,30 +93,23 @@ module _ (s d d₁ d₂ : List ℕ) (key_of : ℕ → List ℕ) (keys : ℕ) (ro
       never : (o : ℕ) → o < 0 → ⊥
       never o h = omega arith
 
--- the place of the FILEPASS that was found
-module _ (s : List ℕ) (at len : ℕ) (e : found_of (filepass (walk s).records) ≡ found.At at len) where
-  abbrev place : BiffRecord
-  place = record { at = at; id = 0x002F; len = len }
-
-  by_blanked : (r : Option BiffRecord) (o : ℕ) → found_of r ≡ found.At at len → blanked r o ≡ blanked (some place) o
-  by_blanked none o g = cc
-  by_blanked (some r) o g = let x : r.at ≡ at = cc in let y : r.len ≡ len = cc in rw (x, y)
-
-  same_blanked : (o : ℕ) → blanked (filepass (walk s).records) o ≡ blanked (some place) o
-  same_blanked o = by_blanked (filepass (walk s).records) o e
+-- the FILEPASS that was found
+module _ (s : List ℕ) (first : BiffRecord) (e : filepass (walk s).records ≡ Some first) where
+  same_blanked : (o : ℕ) → blanked (filepass (walk s).records) o ≡ blanked (Some first) o
+  same_blanked o = rw e refl
 
   -- the plain stream, from the stream that went through the lock and the FILEPASS that was blanked
-  module _ (p d d₁ d₂ : List ℕ) (f : BiffRecord → ℕ → ℕ → ℕ) (inside : at + 4 + len ≤ length s) (room : length s ≤ length d)
+  module _ (p d d₁ d₂ : List ℕ) (f : BiffRecord → ℕ → ℕ → ℕ) (inside : first.at + 4 + first.len ≤ length s) (room : length s ≤ length d)
       (w : Written (through_at s f) 0 (length s) d d₁)
-      (g : (r : BiffRecord) (o x : ℕ) → f r o x ≡ plain_byte (filepass_body s) p r o x) (b : Blanks at len d₁ d₂) where
+      (g : (r : BiffRecord) (o x : ℕ) → f r o x ≡ plain_byte (filepass_body s) p r o x) (b : Blanks first d₁ d₂) where
     through : (o : ℕ) → through_at s f o ≡ through_at s (plain_byte (filepass_body s) p) o
     through o = same_in_record f (plain_byte (filepass_body s) p) (record_at (walk s).records o) o (get_or s o 0) (λ r. g r o (get_or s o 0))
 
     byte_left : (o : ℕ) → o < length s → get_or d₂ o 0 ≡ plain_at s p o (get_or s o 0)
     unfolding plain_at
-    byte_left o h = by_test (blanked (some place) o) refl
+    byte_left o h = by_test (blanked (Some first) o) refl
       where
-        by_test : (t : Bool) → blanked (some place) o ≡ t → get_or d₂ o 0 ≡ pick (blanked (filepass (walk s).records) o) 0 (through_at s (plain_byte (filepass_body s) p) o)
+        by_test : (t : Bool) → blanked (Some first) o ≡ t → get_or d₂ o 0 ≡ pick (blanked (filepass (walk s).records) o) 0 (through_at s (plain_byte (filepass_body s) p) o)
         by_test true q = b.zeroed o q ∙ stop (through_at s (plain_byte (filepass_body s) p) o) (same_blanked o ∙ q)
         by_test false q = skip 0 (same_blanked o ∙ q) (b.kept o q ∙ w.inside o (omega arith) h ∙ through o)
 
@@ -128,7 +121,7 @@ module _ (s : List ℕ) (at len : ℕ) (e : found_of (filepass (walk s).records)
           same = b.same ∙ w.same;
           before = λ o h. absurd (never o h);
           inside = λ o h k. byte_left o k;
-          after = λ o h. b.kept o (blank_behind place o (omega arith)) ∙ w.after o h;
+          after = λ o h. b.kept o (blank_behind first o (omega arith)) ∙ w.after o h;
         })
         ∙ ap (λ (l : List ℕ). l ++ drop (length s) d) (listed (plain_at s p) s)
       where
@@ -140,12 +133,12 @@ pub structure_slice : (s b : List ℕ) → b ≡ filepass_body s → take (lengt
 structure_slice s b eb = take_all (length b - 2) (drop 2 b) (le_of_eq (length-drop 2 b)) ∙ ap (drop 2) eb
 
 -- a password that fails leaves the output, and one that passes opens it
-module _ (s p d : List ℕ) where
-  pub unlocks_no : passes (filepass_body s) p ≡ false → Unlocks s p d false d
-  unlocks_no e = record { told = sym e; left = skip (plain s p ++ drop (length s) d) e refl }
+module _ {A : Type 0} (s p d : List ℕ) (told : A) where
+  pub unlocks_no : passes (filepass_body s) p ≡ false → Unlocks s p d told (Err WrongPassword) d
+  unlocks_no e = record { answered = skip _ e refl; left = skip (plain s p ++ drop (length s) d) e refl }
 
-  pub unlocks_yes : (d₂ : List ℕ) → passes (filepass_body s) p ≡ true → d₂ ≡ plain s p ++ drop (length s) d → Unlocks s p d true d₂
-  unlocks_yes d₂ e g = record { told = sym e; left = g ∙ stop d e }
+  pub unlocks_yes : (d₂ : List ℕ) → passes (filepass_body s) p ≡ true → d₂ ≡ plain s p ++ drop (length s) d → Unlocks s p d told (Ok told) d₂
+  unlocks_yes d₂ e g = record { answered = stop _ e; left = g ∙ stop d e }
 
 -- XOR
 module _ (body p : List ℕ) (z : type_of body ≡ 0) where

@@ -1,18 +1,15 @@
 -- The cases of document 01's "Short books" that are marked P, in its order: what Look says of each stream, and what Open answers and leaves.
 -- The document's B, 09 08 00 00, is written out.
 -- Assumes nothing.
-use Rattle.std.specs.Prelude.{ℕ, ◌+◌, true, false, List, [], ◌∷◌, ◌++◌, length, replicate}
+use Rattle.excel97.specs.declared.Report.{Report}
+use Rattle.std.specs.Prelude.{ℕ, ◌+◌, true, false, List, [], ◌∷◌, ◌++◌, length, replicate, None, Ok, Err, Result, Some}
 use Rattle.xor_obfuscation.specs.Xor.{password_verifier, xor_key, xor_array}
-use Rattle.binary_office.specs.declared.Version.TheVariants.{Pair, NoVersion}
-use Rattle.binary_office.specs.declared.KeySize.TheVariants.{NoSize}
 use Rattle.binary_office.specs.declared.Verdict.{Verdict}
 use Rattle.binary_office.specs.declared.Verdict.TheVariants.{Yes, No, Unknown}
 use Rattle.binary_office.specs.Look.{look}
 use Rattle.file_params.specs.declared.Refusal.{Refusal}
 use Rattle.file_params.specs.Refusal.{number, first, second}
 use Rattle.file_params.specs.declared.Refusal.TheVariants.{BiffRecordUnreadable, WorkbookBofMissing, NotEncrypted, FilepassOutOfOrder, FilepassTruncated, FilepassEncryptionType, EncryptionVersionInfoTruncated, UnsupportedEncryptionVersion, WrongPassword}
-use Rattle.excel97.specs.declared.Answer.{Answer}
-use Rattle.excel97.specs.declared.Answer.TheVariants.{Opened, Refused}
 use Rattle.excel97.specs.Open.{Outcome, xor_report, outcome}
 
 -- a stream and a password; Look's verdict; Open's answer with the scratch and the output that it leaves, and the answer in the document's numbers
@@ -46,9 +43,9 @@ abbrev pub lent_output : (stream : List ℕ) → List ℕ
 lent_output stream = replicate (length stream + 1) 0xAA
 
 -- a refusal's number and its two details
-abbrev pub numbers_of : Answer → List ℕ
-numbers_of (Opened told) = []
-numbers_of (Refused r) = number r ∷ first r ∷ second r ∷ []
+abbrev pub numbers_of : (Result Report Refusal) → List ℕ
+numbers_of (Ok told) = []
+numbers_of (Err r) = number r ∷ first r ∷ second r ∷ []
 
 -- a case with its results computed again
 abbrev pub again : Case → Case
@@ -74,10 +71,10 @@ password_b = 0x42 ∷ []
 
 -- yes, and nothing known of the lock; yes, and XOR
 abbrev locked : Verdict
-locked = Yes (record { xor = false; version = NoVersion; key_size = NoSize })
+locked = Yes (record { xor = false; version = None; key_size = None })
 
 abbrev locked_xor : Verdict
-locked_xor = Yes (record { xor = true; version = NoVersion; key_size = NoSize })
+locked_xor = Yes (record { xor = true; version = None; key_size = None })
 
 -- a refusal from question 6 on: scratch is wiped, and the output is as it was
 abbrev refused : (stream password : List ℕ) → Verdict → Refusal → (number first second : ℕ) → Case
@@ -87,7 +84,7 @@ refused stream p verdict r n a b =
       stream = stream;
       password = p;
       verdict = verdict;
-      left = record { answer = Refused r; scratch = left_scratch; output = lent_output stream };
+      left = record { answer = Err r; scratch = left_scratch; output = lent_output stream };
       numbers = n ∷ a ∷ b ∷ [];
     })
 
@@ -108,7 +105,7 @@ cases =
     ∷ refused (0x09 ∷ 0x08 ∷ 0x00 ∷ 0x00 ∷ 0x2F ∷ 0x00 ∷ 0x02 ∷ 0x00 ∷ 0x02 ∷ 0x00 ∷ []) password_a locked (FilepassEncryptionType 2) 11 2 0
     ∷ refused (0x09 ∷ 0x08 ∷ 0x00 ∷ 0x00 ∷ 0x2F ∷ 0x00 ∷ 0x04 ∷ 0x00 ∷ 0x01 ∷ 0x00 ∷ 0x01 ∷ 0x00 ∷ []) password_a locked (EncryptionVersionInfoTruncated 2) 12 2 4
     ∷ refused (0x09 ∷ 0x08 ∷ 0x00 ∷ 0x00 ∷ 0x2F ∷ 0x00 ∷ 0x06 ∷ 0x00 ∷ 0x01 ∷ 0x00 ∷ 0x01 ∷ 0x00 ∷ 0x02 ∷ 0x00 ∷ []) password_a
-    (Yes (record { xor = false; version = Pair 1 2; key_size = NoSize })) (UnsupportedEncryptionVersion 1 2) 13 1 2
+    (Yes (record { xor = false; version = Some (record { major = 1; minor = 2 }); key_size = None })) (UnsupportedEncryptionVersion 1 2) 13 1 2
     ∷ password
     (record {
       password = password_a;
@@ -122,7 +119,7 @@ cases =
       password = password_a;
       verdict = locked_xor;
       left = record {
-        answer = Opened (xor_report 3 20 2 0);
+        answer = Ok (xor_report 3 20 2 0);
         scratch = left_scratch;
         output = 0x09 ∷ 0x08 ∷ 0x00 ∷ 0x00 ∷ 0x00 ∷ 0x00 ∷ 0x06 ∷ 0x00 ∷ 0x00 ∷ 0x00 ∷ 0x00 ∷ 0x00 ∷ 0x00 ∷ 0x00 ∷ 0x42 ∷ 0x00 ∷ 0x02 ∷ 0x00 ∷ 0xBE ∷ 0x19 ∷ 0xAA ∷ [];
       };

@@ -1,8 +1,7 @@
 -- Open: document 01 ("Open: the plain stream", "The three locks"), with MS-XLS 2.2.10 (which bytes are enciphered), 2.4.117 (FilePass) and
 -- MS-OFFCRYPTO 2.3.5 to 2.3.7 (the locks). The questions are `file_params`' table.
 -- Assumes nothing.
-use Rattle.std.specs.Prelude.{◌≡◌, ℕ, ◌+◌, ◌-◌, Bool, false, ◌&&◌, ◌||◌, List, [], ◌∷◌, ◌++◌, eqb, leb, ltb, length, drop, replicate}
-use Rattle.std.proofs.Math.Option.{Option, none, some}
+use Rattle.std.specs.Prelude.{◌≡◌, ℕ, ◌+◌, ◌-◌, Bool, false, ◌&&◌, ◌||◌, List, [], ◌∷◌, ◌++◌, eqb, leb, ltb, length, drop, replicate, Option, None, Some, Ok, Err, Result}
 use Rattle.std.specs.Int.Bits.{bit_xor}
 use Rattle.laws.specs.Choice.{pick}
 use Rattle.laws.specs.Offsets.{map_at}
@@ -10,7 +9,8 @@ use Rattle.sensitive.specs.Ansi.{ansi}
 use Rattle.xor_obfuscation.specs.declared.Way.{Way}
 use Rattle.xor_obfuscation.specs.declared.Way.TheVariants.{Decrypt}
 use Rattle.xor_obfuscation.specs.Xor.{password_verifier, xor_key, xor_array, transformed}
-use Rattle.binary_office.specs.Walk.{BiffRecord, walk, clear_len}
+use Rattle.binary_office.specs.declared.BiffRecord.{BiffRecord}
+use Rattle.binary_office.specs.Walk.{walk, clear_len}
 use Rattle.file_params.specs.declared.Refusal.{Refusal}
 use Rattle.file_params.specs.Refusal.{number}
 use Rattle.file_params.specs.Questions.{scratch_need, asked, questions, filepass, filepass_body, type_of, structure_of, le16}
@@ -22,13 +22,11 @@ use Rattle.survey.specs.Survey.{enciphered_bytes, block_keys}
 use Rattle.excel97.specs.declared.Lock.{Lock}
 use Rattle.excel97.specs.declared.Lock.TheVariants.{Xor, Office97, CryptoApi}
 use Rattle.excel97.specs.declared.Report.{Report}
-use Rattle.excel97.specs.declared.Answer.{Answer}
-use Rattle.excel97.specs.declared.Answer.TheVariants.{Opened, Refused}
 
 -- XOR: the password's bytes where it has 1 to 15 characters up to U+00FF; key and verifier must both match those at body bytes 2 and 4
 abbrev pub xor_matches : (body : List ℕ) → Option (List ℕ) → Bool
-xor_matches body none = false
-xor_matches body (some p) = eqb (xor_key p) (le16 body 2) && eqb (password_verifier p) (le16 body 4)
+xor_matches body None = false
+xor_matches body (Some p) = eqb (xor_key p) (le16 body 2) && eqb (password_verifier p) (le16 body 4)
 
 -- RC4: the check of the structure's verifier and hash
 abbrev pub rc4_matches : (structure password : List ℕ) → Bool
@@ -46,8 +44,8 @@ keystream password salt lock bits offset = keystream_at 1024 (block_key (schedul
 
 -- the array of an XOR password
 abbrev pub array_of : Option (List ℕ) → List ℕ
-array_of none = replicate 16 0
-array_of (some p) = xor_array p (xor_key p)
+array_of None = replicate 16 0
+array_of (Some p) = xor_array p (xor_key p)
 
 -- a byte x of the enciphered part of a record, at an offset: under XOR the first uses array index (body end + clear) mod 16, each later one the next. Opening
 -- deciphers it, sealing enciphers it.
@@ -67,21 +65,21 @@ abbrev pub covers : BiffRecord → ℕ → Bool
 covers r offset = leb r.at offset && ltb offset (r.at + 4 + r.len)
 
 unfoldable pub record_at : List BiffRecord → ℕ → Option BiffRecord
-record_at [] offset = none
-record_at (r ∷ rs) offset = pick (covers r offset) (some r) (record_at rs offset)
+record_at [] offset = None
+record_at (r ∷ rs) offset = pick (covers r offset) (Some r) (record_at rs offset)
 
 -- headers and clear parts are the stream's own, and so is what lies in no record; the rest is deciphered
 abbrev pub in_header_or_clear : BiffRecord → ℕ → Bool
 in_header_or_clear r offset = ltb offset (r.at + 4 + clear_len r.id r.len)
 
 abbrev pub in_record : (BiffRecord → ℕ → ℕ → ℕ) → Option BiffRecord → (offset x : ℕ) → ℕ
-in_record decipher none offset x = x
-in_record decipher (some r) offset x = pick (in_header_or_clear r offset) x (decipher r offset x)
+in_record decipher None offset x = x
+in_record decipher (Some r) offset x = pick (in_header_or_clear r offset) x (decipher r offset x)
 
 -- the first FILEPASS gets id 0000 and a zero body; its length stays
 abbrev pub blanked : Option BiffRecord → ℕ → Bool
-blanked none offset = false
-blanked (some r) offset = (leb r.at offset && ltb offset (r.at + 2)) || (leb (r.at + 4) offset && ltb offset (r.at + 4 + r.len))
+blanked None offset = false
+blanked (Some r) offset = (leb r.at offset && ltb offset (r.at + 2)) || (leb (r.at + 4) offset && ltb offset (r.at + 4 + r.len))
 
 -- the plain byte at an offset, whose byte in the stream is x
 unfoldable pub plain_at : (stream password : List ℕ) → (offset x : ℕ) → ℕ
@@ -132,7 +130,7 @@ report stream =
 
 -- the outcome: the answer, and scratch and output at exit
 pub record Outcome : Type 0 where
-  pub answer : Answer
+  pub answer : Result Report Refusal
   pub scratch : List ℕ
   pub output : List ℕ
 
@@ -141,17 +139,17 @@ abbrev pub wiped : (need : ℕ) → List ℕ → List ℕ
 wiped need scratch = replicate need 0 ++ drop need scratch
 
 abbrev pub outcome_by : (need : ℕ) → (stream password scratch output : List ℕ) → Option Refusal → Outcome
-outcome_by need stream password scratch output none =
-    record { answer = Opened (report stream); scratch = wiped need scratch; output = plain stream password ++ drop (length stream) output }
-outcome_by need stream password scratch output (some r) =
-    record { answer = Refused r; scratch = pick (leb (number r) 5) scratch (wiped need scratch); output = output }
+outcome_by need stream password scratch output None =
+    record { answer = Ok (report stream); scratch = wiped need scratch; output = plain stream password ++ drop (length stream) output }
+outcome_by need stream password scratch output (Some r) =
+    record { answer = Err r; scratch = pick (leb (number r) 5) scratch (wiped need scratch); output = output }
 
 -- where a scratch of `need` bytes is wanted
 unfoldable pub outcome_with : (need : ℕ) → (stream password scratch output : List ℕ) → Outcome
 outcome_with need stream password scratch output =
     outcome_by need stream password scratch output (asked (questions need stream password scratch output (passes (filepass_body stream) password)))
 
-pub record OpensWith (need : ℕ) (stream password scratch output : List ℕ) (answer : Answer) (scratch' output' : List ℕ) : Type 0 where
+pub record OpensWith (need : ℕ) (stream password scratch output : List ℕ) (answer : Result Report Refusal) (scratch' output' : List ℕ) : Type 0 where
   pub answered : answer ≡ (outcome_with need stream password scratch output).answer
   pub scratch_left : scratch' ≡ (outcome_with need stream password scratch output).scratch
   pub output_left : output' ≡ (outcome_with need stream password scratch output).output
@@ -160,5 +158,5 @@ pub record OpensWith (need : ℕ) (stream password scratch output : List ℕ) (a
 abbrev pub outcome : (stream password scratch output : List ℕ) → Outcome
 outcome = outcome_with scratch_need
 
-abbrev pub Opens : (stream password scratch output : List ℕ) → Answer → (scratch' output' : List ℕ) → Type 0
+abbrev pub Opens : (stream password scratch output : List ℕ) → Result Report Refusal → (scratch' output' : List ℕ) → Type 0
 Opens = OpensWith scratch_need

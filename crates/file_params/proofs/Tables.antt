@@ -1,9 +1,9 @@
 -- A test of every refusal that a table of questions can give; and with it the numbers of those that a stream alone can give.
 -- Assumes nothing.
+use Rattle.std.specs.Prelude.{Some}
 use mathlib.Core.Path.{◌≡◌, refl}
 use mathlib.Core.Bool.{Bool, true, false, ◌&&◌}
 use mathlib.Core.List.{List, [], ◌∷◌, ◌++◌}
-use mathlib.Core.Option.{some}
 use Prim.Native.Nat.{ℕ, ◌≤◌}
 use lib.Dec.{eqb}
 use Rattle.laws.specs.Choice.{pick, within}
@@ -46,19 +46,19 @@ module _ (f : Refusal → Bool) where
           (where_asked (is_office97 structure) (office97 structure) (o structure))
           (where_asked (is_crypto_api structure) (crypto_api structure) (c structure)))
 
-  pub given_passes : (qs : List Question) (r : Refusal) → every qs ≡ true → asked qs ≡ some r → f r ≡ true
+  pub given_passes : (qs : List Question) (r : Refusal) → every qs ≡ true → asked qs ≡ Some r → f r ≡ true
   unfolding asked pick
   given_passes [] r e g = cc
   given_passes (q ∷ qs) r e g = go q.yes (f q.no) refl e g (given_passes qs r)
     where
-      go : (t u : Bool) → f q.no ≡ u → (u && every qs) ≡ true → pick t (asked qs) (some q.no) ≡ some r → (every qs ≡ true → asked qs ≡ some r → f r ≡ true)
+      go : (t u : Bool) → f q.no ≡ u → (u && every qs) ≡ true → pick t (asked qs) (Some q.no) ≡ Some r → (every qs ≡ true → asked qs ≡ Some r → f r ≡ true)
           → f r ≡ true
       go true true k e g h = h e g
       go false true k e g h = let z : q.no ≡ r = cc in rw (← z) k
       go t false k e g h = cc
 
 -- questions 6 to 26
-pub stream_number : (stream : List ℕ) (r : Refusal) → asked (of_stream stream) ≡ some r → (6 ≤ number r) × (number r ≤ 26)
+pub stream_number : (stream : List ℕ) (r : Refusal) → asked (of_stream stream) ≡ Some r → (6 ≤ number r) × (number r ≤ 26)
 unfolding of_stream book in_order locked encryption_type version office97 crypto_api
 stream_number stream r e =
     let test : Refusal → Bool = λ q. within 6 26 (number q) in

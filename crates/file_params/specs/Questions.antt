@@ -1,15 +1,14 @@
 -- The questions of document 01 ("Open: the plain stream"), in its order and with its numbers beside them: each a test and what a "no" gives.
 -- Those that another operation asks too have a name.
 -- Assumes nothing.
-use Rattle.std.specs.Prelude.{ℕ, ◌+◌, ◌-◌, ◌*◌, ◌%◌, ◌^◌, Bool, true, false, not, ◌&&◌, ◌||◌, List, [], ◌∷◌, ◌++◌, eqb, leb, length, get_or, take, drop}
-use Rattle.std.proofs.Math.Option.{Option, none, some}
+use Rattle.std.specs.Option.{unwrap_or}
+use Rattle.std.specs.Prelude.{ℕ, ◌+◌, ◌-◌, ◌*◌, ◌%◌, ◌^◌, Bool, false, not, ◌&&◌, ◌||◌, List, [], ◌∷◌, ◌++◌, eqb, leb, length, get_or, take, drop, Option, None, Some, is_none, is_some, Result, Ok, Err}
 use Rattle.std.specs.Int.Bits.{bit_and}
 use Rattle.laws.specs.Choice.{pick, within}
 use Rattle.word.specs.Word.{le32}
 use Rattle.sensitive.specs.Utf8.{well_formed}
-use Rattle.binary_office.specs.declared.WalkEnd.{WalkEnd}
-use Rattle.binary_office.specs.declared.WalkEnd.TheVariants as end
-use Rattle.binary_office.specs.Walk.{BiffRecord, walk, never_encrypted}
+use Rattle.binary_office.specs.declared.BiffRecord.{BiffRecord}
+use Rattle.binary_office.specs.Walk.{walk, never_encrypted}
 use Rattle.file_params.specs.declared.Refusal.{Refusal}
 use Rattle.file_params.specs.declared.Refusal.TheVariants.{PasswordTooLong, PasswordMalformed, ScratchShort, StreamTooLarge, OutputShort, BiffRecordUnreadable, WorkbookBofMissing, NotEncrypted, FilepassOutOfOrder, FilepassTruncated, FilepassEncryptionType, EncryptionVersionInfoTruncated, UnsupportedEncryptionVersion, Rc4Office97HeaderTruncated, EncryptionInfoTruncated, EncryptionHeaderSizeOutOfRange, EncryptionHeaderSizeOutOfBounds, FlagExternal, FlagAes, FlagCryptoApiClear, UnsupportedAlgId, UnsupportedAlgIdHash, EncryptionHeaderKeySize, EncryptionVerifierTruncated, VerifierSaltSize, VerifierHashSize, WrongPassword}
 
@@ -23,8 +22,13 @@ ask t r = record { yes = t; no = r }
 
 -- questions are asked from the top; the first "no" answers
 unfoldable pub asked : List Question → Option Refusal
-asked [] = none
-asked (q ∷ qs) = pick q.yes (asked qs) (some q.no)
+asked [] = None
+asked (q ∷ qs) = pick q.yes (asked qs) (Some q.no)
+
+-- what is told where no question refuses, or the first refusal
+abbrev pub unless : {A : Type 0} → A → Option Refusal → Result A Refusal
+unless told None = Ok told
+unless told (Some refusal) = Err refusal
 
 -- questions that arise only where a test holds
 unfoldable pub only : Bool → List Question → List Question
@@ -48,62 +52,45 @@ lent need password stream scratch output =
     ∷ ask (leb stream output) OutputShort  -- 5
     ∷ []
 
--- how a walk ends, and where a fault is
-abbrev pub clean : WalkEnd → Bool
-clean end.Clean = true
-clean (end.Fault at) = false
-
-abbrev pub fault_at : WalkEnd → ℕ
-fault_at end.Clean = 0
-fault_at (end.Fault at) = at
-
 -- whether the first record is BOF
 abbrev pub starts_bof : List BiffRecord → Bool
 starts_bof [] = false
 starts_bof (r ∷ rs) = eqb r.id 0x0809
 
--- of how the walk ends, and of its first record
-unfoldable pub in_order : WalkEnd → List BiffRecord → List Question
-in_order ends records =
-    ask (clean ends) (BiffRecordUnreadable (fault_at ends))  -- 6
+-- of the fault at which the walk ends, and of its first record
+unfoldable pub in_order : (fault : Option ℕ) → List BiffRecord → List Question
+in_order fault records =
+    ask (is_none fault) (BiffRecordUnreadable (unwrap_or fault 0))  -- 6
     ∷ ask (starts_bof records) WorkbookBofMissing  -- 7
     ∷ []
 
 -- the first FILEPASS
 unfoldable pub filepass : List BiffRecord → Option BiffRecord
-filepass [] = none
-filepass (r ∷ rs) = pick (eqb r.id 0x002F) (some r) (filepass rs)
+filepass [] = None
+filepass (r ∷ rs) = pick (eqb r.id 0x002F) (Some r) (filepass rs)
 
 -- the first id before it that is not one of the seven
 unfoldable pub other_id : List BiffRecord → Option ℕ
-other_id [] = none
-other_id (r ∷ rs) = pick (eqb r.id 0x002F) none (pick (never_encrypted r.id) (other_id rs) (some r.id))
-
-abbrev pub is_some : {A : Type 0} → Option A → Bool
-is_some none = false
-is_some (some x) = true
-
-abbrev pub or_zero : Option ℕ → ℕ
-or_zero none = 0
-or_zero (some x) = x
+other_id [] = None
+other_id (r ∷ rs) = pick (eqb r.id 0x002F) None (pick (never_encrypted r.id) (other_id rs) (Some r.id))
 
 -- of FILEPASS, and of what stands before it
 unfoldable pub locked : List BiffRecord → List Question
 locked records =
     ask (is_some (filepass records)) NotEncrypted  -- 8
-    ∷ ask (not (is_some (other_id records))) (FilepassOutOfOrder (or_zero (other_id records)))  -- 9
+    ∷ ask (is_none (other_id records)) (FilepassOutOfOrder (unwrap_or (other_id records) 0))  -- 9
     ∷ []
 
 -- of the stream's records
 unfoldable pub book : (stream : List ℕ) → List Question
 book stream =
-    in_order (walk stream).ends (walk stream).records  -- 6, 7
+    in_order (walk stream).fault (walk stream).records  -- 6, 7
     ++ locked (walk stream).records  -- 8, 9
 
 -- the body of the first FILEPASS, and the structure behind its type
 abbrev pub body_of : List ℕ → Option BiffRecord → List ℕ
-body_of stream none = []
-body_of stream (some r) = take r.len (drop (r.at + 4) stream)
+body_of stream None = []
+body_of stream (Some r) = take r.len (drop (r.at + 4) stream)
 
 unfoldable pub filepass_body : List ℕ → List ℕ
 filepass_body stream = body_of stream (filepass (walk stream).records)

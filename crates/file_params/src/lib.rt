@@ -7,7 +7,7 @@ ghost use Rattle.std.specs.Prelude.{◌≡◌};
 ghost use Rattle.file_params.specs.Refusal.{number, first, second};
 
 // Why a workbook stream is refused, with the details that go with the number.
-#[derive(Clone, Copy)]
+#[derive(Clone, Copy, Debug, PartialEq, Eq)]
 pub enum Refusal {
     PasswordTooLong,
     PasswordMalformed,
@@ -44,7 +44,7 @@ pub enum Refusal {
 }
 
 // The two details of a refusal.
-#[derive(Clone, Copy)]
+#[derive(Clone, Copy, Debug, PartialEq, Eq)]
 pub struct Details {
     pub first: u64,
     pub second: u64,

@@ -1,10 +1,10 @@
 -- How many offsets the definition of the plain stream deciphers: record by record those behind the clear part, and no other. FILEPASS has a clear body, so
 -- that what is zeroed was never counted.
 -- Assumes nothing.
+use Rattle.std.specs.Prelude.{Option, None, Some}
 use mathlib.Core.Path.{◌≡◌, refl, sym, ap, ◌∙◌}
 use mathlib.Core.Bool.{Bool, true, false}
 use mathlib.Core.List.{List, []}
-use mathlib.Core.Option.{Option, none, some}
 use Prim.Native.Nat.{ℕ, zero, suc, ◌+◌, ◌-◌, ◌≤◌, ◌<◌}
 use native.Mathlib.Nat.{zero-add, add-zero, add-suc}
 use native.Mathlib.Omega.{arith}
@@ -13,7 +13,8 @@ use lib.ListN.{length}
 use Rattle.laws.specs.Choice.{pick}
 use Rattle.laws.proofs.Choice.{taken, left, same_or}
 use Rattle.binary_office.specs.declared.Step.TheVariants as step
-use Rattle.binary_office.specs.Walk.{BiffRecord, step_at, walk_at, walk, clear_len}
+use Rattle.binary_office.specs.declared.BiffRecord.{BiffRecord}
+use Rattle.binary_office.specs.Walk.{step_at, walk_at, walk, clear_len}
 use Rattle.binary_office.proofs.Along.{records_end_lem, records_fault, along}
 use Rattle.file_params.specs.Questions.{filepass}
 use Rattle.survey.specs.Survey.{enciphered_len, enciphered_bytes}
@@ -52,7 +53,7 @@ module _ (s : List ℕ) where
   first = filepass (walk s).records
 
   -- an offset in no record, in a header or clear part, behind them
-  nowhere : (o : ℕ) → record_at (walk s).records o ≡ none → deciphers s o ≡ false
+  nowhere : (o : ℕ) → record_at (walk s).records o ≡ None → deciphers s o ≡ false
   unfolding deciphers pick
   nowhere o e = rw e (go (blanked first o))
     where
@@ -60,7 +61,7 @@ module _ (s : List ℕ) where
       go true = refl
       go false = refl
 
-  module _ (r : BiffRecord) (o : ℕ) (e : record_at (walk s).records o ≡ some r) where
+  module _ (r : BiffRecord) (o : ℕ) (e : record_at (walk s).records o ≡ Some r) where
     own : o < r.at + 4 + clear_len r.id r.len → deciphers s o ≡ false
     unfolding deciphers pick
     own h = rw (e, lt-ltb o (r.at + 4 + clear_len r.id r.len) h) (go (blanked first o))

@@ -1,6 +1,7 @@
 -- From what the survey told to the forecast.
 -- Assumes nothing.
-use mathlib.Core.Path.{◌≡◌, refl, ap, ◌∙◌}
+use Rattle.std.specs.Prelude.{Ok, Err}
+use mathlib.Core.Path.{◌≡◌, refl, ap}
 use mathlib.Core.Bool.{Bool, true, false}
 use mathlib.Core.List.{List}
 use Prim.Native.Nat.{ℕ, ◌+◌}
@@ -8,16 +9,14 @@ use lib.Dec.{eqb}
 use lib.ListN.{length}
 use Rattle.laws.specs.Choice.{pick}
 use Rattle.file_params.specs.declared.Refusal.{Refusal}
-use Rattle.file_params.specs.Questions.{asked, type_of, structure_of, filepass_body}
+use Rattle.file_params.specs.Questions.{asked, unless, type_of, structure_of, filepass_body}
+use Rattle.file_params.proofs.Laws.{unless_refused, unless_passed, unless_told}
 use Rattle.block_keys.specs.BlockKeys.{started_blocks}
 use Rattle.block_keys.specs.Lock.{lock_of}
 use Rattle.survey.specs.declared.Book.{Book}
 use Rattle.survey.specs.declared.Scheme.TheVariants as scheme
-use Rattle.survey.specs.declared.Surveyed.TheVariants as surveyed
-use Rattle.survey.specs.Survey.{block_keys, scheme_by, book_of, alone, surveyed_by}
-use Rattle.survey.proofs.Told.{survey_refused, survey_passed, survey_told}
-use Rattle.forecast.specs.declared.Answer.TheVariants as answer
-use Rattle.forecast.specs.Forecast.{counts_of, answer_by, forecast}
+use Rattle.survey.specs.Survey.{block_keys, scheme_by, book_of, alone, surveyed}
+use Rattle.forecast.specs.Forecast.{counts_of, forecast}
 use Rattle.forecast.specs.Steps.{keys_of}
 
 -- the keys of the lock that was read
@@ -30,14 +29,13 @@ by_scheme body n = go (eqb (type_of body) 0)
     go false = refl
 
 module _ (s : List ℕ) where
-  pub foretold_refused : (r : Refusal) → surveyed_by (book_of s) (asked (alone s)) ≡ surveyed.Refused r → answer.Refused r ≡ forecast s
-  unfolding forecast
-  foretold_refused r e = ap (answer_by (counts_of s)) (survey_refused (book_of s) (asked (alone s)) r e)
+  pub foretold_refused : (r : Refusal) → surveyed s ≡ Err r → Err r ≡ forecast s
+  unfolding surveyed forecast
+  foretold_refused r e = ap (unless (counts_of s)) (unless_refused (book_of s) (asked (alone s)) r e)
 
-  pub foretold : (b : Book) → surveyed_by (book_of s) (asked (alone s)) ≡ surveyed.Locked b → (k : ℕ) → k ≡ keys_of b.scheme (length s)
-      → answer.Told (record { output_bytes = length s; records = b.records; enciphered_body_bytes = b.enciphered; block_keys = k }) ≡ forecast s
-  unfolding forecast counts_of book_of
-  foretold b e k ek =
-      let eb = survey_told (book_of s) b (asked (alone s)) e in
-      let keys : k ≡ block_keys (filepass_body s) (length s) = ek ∙ rw eb (by_scheme (filepass_body s) (length s)) in
-      rw (keys, eb) (ap (answer_by (counts_of s)) (survey_passed (book_of s) b (asked (alone s)) e))
+  pub foretold : (b : Book) → surveyed s ≡ Ok b
+      → Ok (record { output_bytes = length s; records = b.records; enciphered_body_bytes = b.enciphered; block_keys = keys_of b.scheme (length s) }) ≡ forecast s
+  unfolding surveyed forecast counts_of book_of
+  foretold b e =
+      rw (unless_told (book_of s) b (asked (alone s)) e, by_scheme (filepass_body s) (length s))
+      (ap (unless (counts_of s)) (unless_passed (book_of s) b (asked (alone s)) e))

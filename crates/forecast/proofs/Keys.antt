@@ -1,10 +1,10 @@
 -- The blocks whose key opening derives: the list by its places, and that no other key matters. A byte of the stream lies in a block that the stream starts, and
 -- the check uses block 0.
 -- Assumes nothing.
+use Rattle.std.specs.Prelude.{Option, None, Some}
 use mathlib.Core.Path.{◌≡◌, refl, sym, ap, ◌∙◌}
 use mathlib.Core.Bool.{Bool, true, false}
 use mathlib.Core.List.{List, [], ◌∷◌}
-use mathlib.Core.Option.{Option, none, some}
 use Prim.Native.Nat.{ℕ, suc, ◌+◌, ◌/◌, ◌%◌, ◌<◌}
 use native.Mathlib.Numerals.{add-one}
 use native.Mathlib.Omega.{arith}
@@ -18,7 +18,8 @@ use Rattle.laws.proofs.Choice.{taken, left}
 use Rattle.laws.proofs.Offsets.{length_tabulate, get_d_tabulate}
 use Rattle.sensitive.specs.Ansi.{ansi}
 use Rattle.rc4.specs.Rc4.{keystream_byte}
-use Rattle.binary_office.specs.Walk.{BiffRecord, walk}
+use Rattle.binary_office.specs.declared.BiffRecord.{BiffRecord}
+use Rattle.binary_office.specs.Walk.{walk}
 use Rattle.file_params.specs.Questions.{filepass, filepass_body, type_of, structure_of}
 use Rattle.block_keys.specs.declared.Kind.{Kind}
 use Rattle.block_keys.specs.declared.Kind.TheVariants.{Office97, CryptoApi}
@@ -38,8 +39,8 @@ by_place_lem stream password offset x =
   where
     go : (o : Option BiffRecord)
         → in_record (plain_byte (filepass_body stream) password) o offset x ≡ own_or o offset x (λ (r : BiffRecord). plain_byte (filepass_body stream) password r offset x)
-    go none = refl
-    go (some r) = refl
+    go None = refl
+    go (Some r) = refl
 
 -- two ways of deciphering that agree
 same_place : (stream : List ℕ) (offset x : ℕ) (f g : BiffRecord → ℕ) → ((r : BiffRecord) → f r ≡ g r) → by_place stream offset 0 x f ≡ by_place stream offset 0 x g
@@ -47,8 +48,8 @@ same_place stream offset x f g h =
     ap (λ (n : ℕ). pick (blanked (filepass (walk stream).records) offset) 0 n) (go (record_at (walk stream).records offset))
   where
     go : (o : Option BiffRecord) → own_or o offset x f ≡ own_or o offset x g
-    go none = refl
-    go (some r) = rw (h r)
+    go None = refl
+    go (Some r) = rw (h r)
 
 -- two functions that agree on the offsets of a list
 same_map : (f g : ℕ → ℕ → ℕ) (i : ℕ) (xs : List ℕ) → ((o x : ℕ) → o < i + length xs → f o x ≡ g o x) → map_at f i xs ≡ map_at g i xs

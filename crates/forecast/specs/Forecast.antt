@@ -1,15 +1,12 @@
 -- T-04 of document 02, "What opening will take": output bytes, records, enciphered body bytes and block keys, from a stream alone; or the refusal of
 -- questions 4 and 6 to 26.
 -- Assumes nothing.
-use Rattle.std.specs.Prelude.{ℕ, List, length}
-use Rattle.std.proofs.Math.Option.{Option, none, some}
+use Rattle.std.specs.Prelude.{ℕ, List, length, Result}
 use Rattle.binary_office.specs.Walk.{walk}
 use Rattle.file_params.specs.declared.Refusal.{Refusal}
-use Rattle.file_params.specs.Questions.{asked, filepass_body}
+use Rattle.file_params.specs.Questions.{asked, unless, filepass_body}
 use Rattle.survey.specs.Survey.{enciphered_bytes, block_keys, alone}
 use Rattle.forecast.specs.declared.Counts.{Counts}
-use Rattle.forecast.specs.declared.Answer.{Answer}
-use Rattle.forecast.specs.declared.Answer.TheVariants as answer
 
 -- "From a stream alone, without a password, give: output bytes, records, enciphered body bytes (body lengths less clear parts, summed), and block keys derived."
 unfoldable pub counts_of : (stream : List ℕ) → Counts
@@ -22,10 +19,6 @@ counts_of stream =
       block_keys = block_keys (filepass_body stream) (length stream);
     }
 
-abbrev pub answer_by : Counts → Option Refusal → Answer
-answer_by c none = answer.Told c
-answer_by c (some r) = answer.Refused r
-
 -- "Streams refused by questions 4 and 6 to 26 are refused likewise; the other questions don't arise."
-unfoldable pub forecast : (stream : List ℕ) → Answer
-forecast stream = answer_by (counts_of stream) (asked (alone stream))
+unfoldable pub forecast : (stream : List ℕ) → Result Counts Refusal
+forecast stream = unless (counts_of stream) (asked (alone stream))

@@ -1,14 +1,14 @@
 -- What requests T-04 and T-05 of document 02 say of the forecast, sentence by sentence: of the definition, and of any run that the contract of Open allows.
 -- Assumes nothing.
-use Rattle.std.specs.Prelude.{◌≡◌, ℕ, zero, suc, ◌+◌, ◌*◌, ◌/◌, ◌%◌, ◌≤◌, ◌<◌, Bool, true, false, List, [], ◌∷◌, ◌++◌, eqb, length, get_or}
-use Rattle.std.proofs.Math.Option.{Option, none, some}
+use Rattle.std.specs.Prelude.{◌≡◌, ℕ, zero, suc, ◌+◌, ◌*◌, ◌/◌, ◌%◌, ◌≤◌, ◌<◌, Bool, true, false, List, [], ◌∷◌, ◌++◌, eqb, length, get_or, Option, None, Some, Ok, Err, Result}
 use Rattle.std.specs.Int.Bits.{bit_xor}
 use Rattle.laws.specs.Choice.{pick}
 use Rattle.laws.specs.Offsets.{tabulate, map_at}
 use Rattle.sensitive.specs.Utf8.{well_formed}
 use Rattle.sensitive.specs.Ansi.{ansi}
 use Rattle.rc4.specs.Rc4.{keystream_byte}
-use Rattle.binary_office.specs.Walk.{BiffRecord, zero_bytes, walk, remainder}
+use Rattle.binary_office.specs.declared.BiffRecord.{BiffRecord}
+use Rattle.binary_office.specs.Walk.{zero_bytes, walk, remainder}
 use Rattle.file_params.specs.declared.Refusal.{Refusal}
 use Rattle.file_params.specs.Refusal.{number}
 use Rattle.file_params.specs.Questions.{filepass, filepass_body, type_of, structure_of, is_office97, is_crypto_api}
@@ -18,19 +18,15 @@ use Rattle.block_keys.specs.Lock.{lock_of, part, salt_of}
 use Rattle.survey.specs.Survey.{enciphered_bytes, block_keys, alone}
 use Rattle.xor_obfuscation.specs.declared.Way.TheVariants.{Decrypt}
 use Rattle.excel97.specs.declared.Report.{Report}
-use Rattle.excel97.specs.declared.Answer as excel97
-use Rattle.excel97.specs.declared.Answer.TheVariants as answer
 use Rattle.excel97.specs.Open.{xor_matches, array_of, xor_byte, passes, plain_byte, record_at, in_header_or_clear, blanked, plain_at, plain, Opens}
 use Rattle.forecast.specs.declared.Counts.{Counts}
-use Rattle.forecast.specs.declared.Answer.{Answer}
-use Rattle.forecast.specs.declared.Answer.TheVariants.{Told, Refused}
 use Rattle.forecast.specs.Forecast.{forecast}
 
 -- Where a byte of the plain stream comes from: the definition of the plain byte, with its three answers left open. An offset is zeroed, or it keeps the
 -- stream's own byte, or its byte is deciphered as one of the record there.
 abbrev pub own_or : {A : Type 0} → Option BiffRecord → (offset : ℕ) → (own : A) → (deciphered : BiffRecord → A) → A
-own_or none offset own deciphered = own
-own_or (some r) offset own deciphered = pick (in_header_or_clear r offset) own (deciphered r)
+own_or None offset own deciphered = own
+own_or (Some r) offset own deciphered = pick (in_header_or_clear r offset) own (deciphered r)
 
 abbrev pub by_place : {A : Type 0} → (stream : List ℕ) → (offset : ℕ) → (zeroed own : A) → (deciphered : BiffRecord → A) → A
 by_place stream offset zeroed own deciphered =
@@ -108,9 +104,9 @@ pub record KeysUsed (stream : List ℕ) : Type 0 where
       (passes_by j structure ≡ passes_by k structure) × (plain_by j stream ≡ plain_by k stream)
 
 -- "Streams refused by questions 4 and 6 to 26 are refused likewise": a forecast beside the answer of Open
-pub record SameRefusals (f : Answer) (a : excel97.Answer) : Type 0 where
-  pub to : (r : Refusal) → f ≡ Refused r → (a ≡ answer.Refused r) × (number r ≡ 27 → ⊥)
-  pub from : (r : Refusal) → a ≡ answer.Refused r → (number r ≡ 27 → ⊥) → f ≡ Refused r
+pub record SameRefusals (f : Result Counts Refusal) (a : Result Report Refusal) : Type 0 where
+  pub to : (r : Refusal) → f ≡ Err r → (a ≡ Err r) × (number r ≡ 27 → ⊥)
+  pub from : (r : Refusal) → a ≡ Err r → (number r ≡ 27 → ⊥) → f ≡ Err r
 
 -- the numbers of the questions that are asked: 12 and 13 for type 1 only, 14 for version 1.1 only, 15 to 26 for CryptoAPI only
 abbrev pub expected : (type_1 is_1_1 is_api : Bool) → List ℕ
@@ -120,30 +116,30 @@ expected type_1 is_1_1 is_api =
 
 -- document 02, T-05: "the directory and forecast accept it; output bytes and block keys count it": the forecast of a book with n bytes of padding behind it, by
 -- the forecast of the book
-abbrev pub padded_forecast : (stream : List ℕ) → (n : ℕ) → Answer → Answer
-padded_forecast stream n (Told c) =
-    Told
+abbrev pub padded_forecast : (stream : List ℕ) → (n : ℕ) → Result Counts Refusal → Result Counts Refusal
+padded_forecast stream n (Ok c) =
+    Ok
     (record {
       output_bytes = c.output_bytes + n;
       records = c.records;
       enciphered_body_bytes = c.enciphered_body_bytes;
       block_keys = block_keys (filepass_body stream) (c.output_bytes + n);
     })
-padded_forecast stream n (Refused r) = Refused r
+padded_forecast stream n (Err r) = Err r
 
 pub record Forecasts : Type 0 where
   -- `by_place` is the definition of the plain byte
   pub places : (stream password : List ℕ) (offset x : ℕ)
       → plain_at stream password offset x ≡ by_place stream offset 0 x (λ (r : BiffRecord). plain_byte (filepass_body stream) password r offset x)
-  pub counts : (stream : List ℕ) (c : Counts) → forecast stream ≡ Told c → AreCounts stream c
+  pub counts : (stream : List ℕ) (c : Counts) → forecast stream ≡ Ok c → AreCounts stream c
   pub under_xor : (stream : List ℕ) → type_of (filepass_body stream) ≡ 0 → NoKeysUsed stream
   pub under_rc4 : (stream : List ℕ) → (type_of (filepass_body stream) ≡ 0 → ⊥) → KeysUsed stream
   -- of any run that opens the stream
   pub of_any_run : (stream password scratch output : List ℕ) (x : Report) (scratch' output' : List ℕ)
-      → Opens stream password scratch output (answer.Opened x) scratch' output'
-      → (c : Counts) × (forecast stream ≡ Told c) × SameCounts c x
+      → Opens stream password scratch output (Ok x) scratch' output'
+      → (c : Counts) × (forecast stream ≡ Ok c) × SameCounts c x
   -- of any run that is lent enough and given a well-formed password of at most 1,024 bytes
-  pub refused : (stream password scratch output : List ℕ) (a : excel97.Answer) (scratch' output' : List ℕ)
+  pub refused : (stream password scratch output : List ℕ) (a : Result Report Refusal) (scratch' output' : List ℕ)
       → length password ≤ 1024 → well_formed password ≡ true → 64 ≤ length scratch → length stream ≤ length output
       → Opens stream password scratch output a scratch' output' → SameRefusals (forecast stream) a
   -- of a book that its records fill, up to 1 GiB with the padding

@@ -2,13 +2,16 @@
 // Nothing of it is in the Rust source.
 #![tactic(auto)]
 
-ghost use Rattle.std.specs.Prelude.{◌≡◌, ◌^◌, ◌<◌};
+ghost use Rattle.std.specs.Prelude.{◌≡◌};
 ghost use Rattle.forecast.specs.Forecast.{forecast};
 ghost use Rattle.forecast.specs.Steps.{keys_of};
 
+use file_params::Refusal;
+use survey::Scheme;
+
 // What opening a stream will take: how many bytes of output, for how many records, how many bytes of their bodies to
 // decipher, and how many block keys to derive.
-#[derive(Clone, Copy)]
+#[derive(Clone, Copy, Debug, PartialEq, Eq)]
 pub struct Counts {
     pub output_bytes: usize,
     pub records: usize,
@@ -16,40 +19,26 @@ pub struct Counts {
     pub block_keys: usize,
 }
 
-// What came of asking for a forecast.
-#[derive(Clone, Copy)]
-pub enum Answer {
-    Told(Counts),
-    Refused(file_params::Refusal),
-}
-
 // How many block keys opening so many bytes derives under a lock: none under XOR, and under RC4 one for the check and
 // one for each block that the bytes start.
-fn keys_of(scheme: survey::Scheme, bytes: usize) -> usize
-    requires { bytes < 2 ^ 63 }
+fn keys_of(scheme: Scheme, bytes: usize) -> usize
     ensures { result ≡ keys_of scheme bytes }
 {
     match scheme {
-        survey::Scheme::Xor => 0,
-        survey::Scheme::Rc4(_) => 1 + (bytes + 1023) / 1024,
+        Scheme::Xor => 0,
+        Scheme::Rc4(_) => 1 + bytes.div_ceil(1024),
     }
 }
 
 // What opening a stream will take, or the refusal that Open would give by questions 4 and 6 to 26.
-pub fn forecast(stream: &[u8]) -> Answer
+pub fn forecast(stream: &[u8]) -> Result<Counts, Refusal>
     ensures { result ≡ forecast stream.now }
 {
-    match survey::survey(stream) {
-        survey::Surveyed::Refused(refusal) => Answer::Refused(refusal),
-        survey::Surveyed::Locked(surveyed) => {
-            let scheme = surveyed.scheme;
-            let block_keys = keys_of(scheme, stream.len());
-            Answer::Told(Counts {
-                output_bytes: stream.len(),
-                records: surveyed.records,
-                enciphered_body_bytes: surveyed.enciphered,
-                block_keys,
-            })
-        }
-    }
+    let book = survey::survey(stream)?;
+    Ok(Counts {
+        output_bytes: stream.len(),
+        records: book.records,
+        enciphered_body_bytes: book.enciphered,
+        block_keys: keys_of(book.scheme, stream.len()),
+    })
 }

@@ -1,10 +1,10 @@
 -- The key size that Look reports is the one that Open reports. Open's questions 10 to 23 fix the type, the version and the key size of the FILEPASS body; Look reads the
 -- same body (`looked`), cut at the last byte that it reads; and a field that lies before the cut is the same in both.
 -- Assumes nothing.
+use Rattle.std.specs.Prelude.{None, Some}
 use mathlib.Core.Path.{◌≡◌, refl, sym, ap, ◌∙◌}
 use mathlib.Core.Bool.{Bool, true, false, ◌&&◌, ◌||◌}
 use mathlib.Core.List.{List}
-use mathlib.Core.Option.{none, some}
 use Prim.Native.Nat.{ℕ, ◌+◌, ◌-◌, ◌%◌, ◌≤◌, ◌<◌}
 use native.Mathlib.Omega.{arith}
 use borrow.Author.Tests.{eq-eqb, ne_eqb, eqb-true, leb-true}
@@ -14,14 +14,12 @@ use lib.Seq.{get_or-drop}
 use Rattle.laws.specs.Choice.{pick, within}
 use Rattle.laws.proofs.Choice.{taken, left, either, same_or, and_left, and_right, within_from, within_to}
 use Rattle.word.specs.Word.{le32}
-use Rattle.binary_office.specs.declared.Field16.TheVariants as two
-use Rattle.binary_office.specs.declared.Field32.TheVariants as four
-use Rattle.binary_office.specs.declared.KeySize.TheVariants.{Bits, NoSize}
 use Rattle.binary_office.specs.declared.Facts.{Facts}
 use Rattle.binary_office.specs.declared.Finding.TheVariants.{Filepass, Unreadable}
 use Rattle.binary_office.specs.declared.Verdict.TheVariants.{Unknown}
 use Rattle.binary_office.specs.Fields.{le32_at}
-use Rattle.binary_office.specs.Walk.{BiffRecord, walk}
+use Rattle.binary_office.specs.declared.BiffRecord.{BiffRecord}
+use Rattle.binary_office.specs.Walk.{walk}
 use Rattle.binary_office.specs.Look.{bits_of, bits_in, facts_of, look}
 use Rattle.binary_office.specs.KeySizes.{reported, Versioned}
 use Rattle.binary_office.proofs.Headers.{le16_value, le32_value, le16_first, le32_first, le32_beyond}
@@ -46,24 +44,24 @@ use Rattle.key_sizes.proofs.Scanned.{seen_there, seen_not, looked}
 -- the FILEPASS body of a CryptoAPI book, past question 23: what Look reads of it
 pub record CryptoApiBody (body : List ℕ) : Type 0 where
   pub versioned : Versioned body (major_of (structure_of body))
-  pub stated : le32_at body 30 ≡ four.Value (key_size (structure_of body))
-  pub size : bits_of (key_size (structure_of body)) ≡ Bits (key_bits (structure_of body))
+  pub stated : le32_at body 30 ≡ Some (key_size (structure_of body))
+  pub size : bits_of (key_size (structure_of body)) ≡ Some (key_bits (structure_of body))
 
 -- a key size that question 23 takes
-fitting : (k : ℕ) → (eqb k 0 || (within 40 128 k && eqb (k % 8) 0)) ≡ true → bits_of k ≡ Bits (pick (eqb k 0) 40 k)
+fitting : (k : ℕ) → (eqb k 0 || (within 40 128 k && eqb (k % 8) 0)) ≡ true → bits_of k ≡ Some (pick (eqb k 0) 40 k)
 fitting k e =
     same_or k 0
-    (λ z. sym (bits_zero k z) ∙ ap Bits (sym (taken 40 k (eq-eqb k 0 z))))
+    (λ z. sym (bits_zero k z) ∙ ap Some (sym (taken 40 k (eq-eqb k 0 z))))
     (λ z.
     let in_range = and_left (within 40 128 k) (eqb (k % 8) 0) (second_true (eqb k 0) (within 40 128 k && eqb (k % 8) 0) (ne_eqb k 0 z) e) in
     let most = within_to 40 128 k in_range in
-    sym (bits_stated k z (omega arith)) ∙ ap Bits (sym (left 40 k (ne_eqb k 0 z))))
+    sym (bits_stated k z (omega arith)) ∙ ap Some (sym (left 40 k (ne_eqb k 0 z))))
 
-module _ (body : List ℕ) (e : none ≡ asked (lock body)) (one : type_of body ≡ 1) (not_1_1 : is_office97 (structure_of body) ≡ false) where
+module _ (body : List ℕ) (e : None ≡ asked (lock body)) (one : type_of body ≡ 1) (not_1_1 : is_office97 (structure_of body) ≡ false) where
   abbrev structure : List ℕ
   structure = structure_of body
 
-  questions : asked (crypto_api structure) ≡ none
+  questions : asked (crypto_api structure) ≡ None
   questions = cryptoapi_passed structure (rc4_passed body (sym e) one) not_1_1
 
   -- questions 16, 17 and 23
@@ -106,7 +104,7 @@ module _ (body : List ℕ) (e : none ≡ asked (lock body)) (one : type_of body 
               major_there = sym (le16_value body 2 (major_of structure) (omega arith) (rw (structure_byte 0, structure_byte 1)));
               minor_there =
                   sym (le16_value body 4 (minor_of structure) (omega arith) (rw (structure_byte 2, structure_byte 3)))
-                  ∙ ap two.Value (eqb-true (minor_of structure) 2 minor_fits);
+                  ∙ ap Some (eqb-true (minor_of structure) 2 minor_fits);
             };
         stated =
             sym
@@ -120,7 +118,7 @@ module _ (body : List ℕ) (e : none ≡ asked (lock body)) (one : type_of body 
 
 -- the facts of such a body that is cut
 module _ (body : List ℕ) (b : CryptoApiBody body) (n : ℕ) where
-  cut_facts : 34 ≤ n → (facts_of (take n body)).key_size ≡ Bits (key_bits (structure_of body))
+  cut_facts : 34 ≤ n → (facts_of (take n body)).key_size ≡ Some (key_bits (structure_of body))
   cut_facts h =
       ap (λ (f : Facts). f.key_size) (facts_are (take n body) (major_of (structure_of body)) first)
       ∙ ap bits_in (le32_first body n 30 (omega arith) ∙ b.stated)
@@ -141,11 +139,11 @@ module _ (body : List ℕ) (b : CryptoApiBody body) (n : ℕ) where
             minor_there = le16_first body n 4 (omega arith) ∙ v.minor_there;
           }
 
-  cut_none : n < 34 → (facts_of (take n body)).key_size ≡ NoSize
+  cut_none : n < 34 → (facts_of (take n body)).key_size ≡ None
   cut_none h = no_size (take n body) (ap bits_in (sym (le32_beyond body n 30 (omega arith))))
 
 -- what Open tells of a CryptoAPI book that passes its questions
-module _ (s : List ℕ) (passed : none ≡ asked (lock (filepass_body s))) (is : (report s).lock ≡ CryptoApi) where
+module _ (s : List ℕ) (passed : None ≡ asked (lock (filepass_body s))) (is : (report s).lock ≡ CryptoApi) where
   abbrev its_body : List ℕ
   its_body = filepass_body s
 
@@ -188,8 +186,8 @@ module _ (s : List ℕ) (passed : none ≡ asked (lock (filepass_body s))) (is :
   its_fields = cryptoapi_body its_body passed type_one not_office97
 
   -- and what Look tells of it
-  module _ (walked : asked (book s) ≡ none) where
-    module _ (r : BiffRecord) (f : filepass (walk s).records ≡ some r) where
+  module _ (walked : asked (book s) ≡ None) where
+    module _ (r : BiffRecord) (f : filepass (walk s).records ≡ Some r) where
       -- how much of the body Look reads
       abbrev n : ℕ
       n = 1048576 - (r.at + 4)
@@ -203,20 +201,20 @@ module _ (s : List ℕ) (passed : none ≡ asked (lock (filepass_body s))) (is :
           ap reported (sym (look_found s _ (Filepass (r.at + 4) r.len) (seen_there s 1048576 r h ∙ sym (looked s r (bof s walked) f (in_order_lem s walked))) refl))
           ∙ ap (λ (b : List ℕ). (facts_of b).key_size) (part_cut s 1048576 (r.at + 4) r.len ∙ ap (take n) (sym body_is))
 
-      size_same : r.at + 38 ≤ 1048576 → reported (look s) ≡ Bits (report s).key_bits
-      size_same h = size_read (omega arith) ∙ cut_facts its_body its_fields n (omega arith) ∙ ap Bits (sym bits_told)
+      size_same : r.at + 38 ≤ 1048576 → reported (look s) ≡ Some (report s).key_bits
+      size_same h = size_read (omega arith) ∙ cut_facts its_body its_fields n (omega arith) ∙ ap Some (sym bits_told)
 
-      size_none : 1048576 < r.at + 38 → reported (look s) ≡ NoSize
+      size_none : 1048576 < r.at + 38 → reported (look s) ≡ None
       size_none h =
           either (r.at + 4) 1048576
           (λ k. size_read k ∙ cut_none its_body its_fields n (omega arith))
           (λ k. ap reported (sym (look_found s Unknown Unreadable (seen_not s 1048576 r k ∙ sym (looked s r (bof s walked) f (in_order_lem s walked))) refl)))
 
-      size_only : reported (look s) ≡ Bits (report s).key_bits → r.at + 38 ≤ 1048576
+      size_only : reported (look s) ≡ Some (report s).key_bits → r.at + 38 ≤ 1048576
       size_only g =
           either (r.at + 38) 1048576
           (λ h. h)
-          (λ h. let z : NoSize ≡ Bits (report s).key_bits = sym (size_none h) ∙ g in impossible (cc))
+          (λ h. let z : None ≡ Some (report s).key_bits = sym (size_none h) ∙ g in impossible (cc))
 
 pub same_key_size : OfAnyRun
 unfolding of_stream
@@ -232,7 +230,7 @@ same_key_size stream password scratch output verdict answer scratch' output' tol
       first = r.0;
       found = r.1;
       sized = λ z. bits_positive stream (sym past_lock) is (sym bits ∙ z);
-      same = λ k. ap reported v ∙ size_same stream (sym past_lock) is past_book r.0 r.1 k ∙ ap Bits (sym bits);
-      only = λ g. size_only stream (sym past_lock) is past_book r.0 r.1 (sym (ap reported v) ∙ g ∙ ap Bits bits);
+      same = λ k. ap reported v ∙ size_same stream (sym past_lock) is past_book r.0 r.1 k ∙ ap Some (sym bits);
+      only = λ g. size_only stream (sym past_lock) is past_book r.0 r.1 (sym (ap reported v) ∙ g ∙ ap Some bits);
       none_behind = λ k. ap reported v ∙ size_none stream (sym past_lock) is past_book r.0 r.1 k;
     }

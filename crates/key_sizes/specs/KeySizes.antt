@@ -2,36 +2,34 @@
 -- a stream and no more, so the two are the same exactly where the key size lies within them: a record's header takes 4 bytes, and the key size is the four
 -- bytes at byte 30 of the FILEPASS body.
 -- Assumes nothing.
-use Rattle.std.specs.Prelude.{◌≡◌, ℕ, ◌+◌, ◌≤◌, ◌<◌, List}
-use Rattle.std.proofs.Math.Option.{some}
-use Rattle.binary_office.specs.declared.KeySize.TheVariants.{Bits, NoSize}
+use Rattle.file_params.specs.declared.Refusal.{Refusal}
+use Rattle.std.specs.Prelude.{◌≡◌, ℕ, ◌+◌, ◌≤◌, ◌<◌, List, Some, None, Ok, Result}
 use Rattle.binary_office.specs.declared.Verdict.{Verdict}
-use Rattle.binary_office.specs.Walk.{BiffRecord, walk}
+use Rattle.binary_office.specs.declared.BiffRecord.{BiffRecord}
+use Rattle.binary_office.specs.Walk.{walk}
 use Rattle.binary_office.specs.Look.{look}
 use Rattle.binary_office.specs.KeySizes.{reported}
 use Rattle.file_params.specs.Questions.{filepass}
 use Rattle.excel97.specs.declared.Lock.TheVariants.{CryptoApi}
 use Rattle.excel97.specs.declared.Report.{Report}
-use Rattle.excel97.specs.declared.Answer.{Answer}
-use Rattle.excel97.specs.declared.Answer.TheVariants.{Opened}
 use Rattle.excel97.specs.Open.{Opens}
 
 -- a verdict on a stream beside the report of its opening, by where the first FILEPASS stands
 pub record SameKeySize (stream : List ℕ) (verdict : Verdict) (told : Report) : Type 0 where
   pub first : BiffRecord
-  pub found : filepass (walk stream).records ≡ some first
+  pub found : filepass (walk stream).records ≡ Some first
   -- Open reports one
   pub sized : told.key_bits ≡ 0 → ⊥
   -- Look reports the same exactly where the key size lies within what it reads
-  pub same : first.at + 38 ≤ 1048576 → reported verdict ≡ Bits told.key_bits
-  pub only : reported verdict ≡ Bits told.key_bits → first.at + 38 ≤ 1048576
+  pub same : first.at + 38 ≤ 1048576 → reported verdict ≡ Some told.key_bits
+  pub only : reported verdict ≡ Some told.key_bits → first.at + 38 ≤ 1048576
   -- and else none
-  pub none_behind : 1048576 < first.at + 38 → reported verdict ≡ NoSize
+  pub none_behind : 1048576 < first.at + 38 → reported verdict ≡ None
 
 -- of any runs that the contracts of `look` and of `open` allow, where Open opens a CryptoAPI book
 abbrev pub OfAnyRun : Type 0
 OfAnyRun =
-    (stream password scratch output : List ℕ) (verdict : Verdict) (answer : Answer) (scratch' output' : List ℕ) (told : Report)
+    (stream password scratch output : List ℕ) (verdict : Verdict) (answer : (Result Report Refusal)) (scratch' output' : List ℕ) (told : Report)
     → verdict ≡ look stream
-    → Opens stream password scratch output answer scratch' output' → answer ≡ Opened told → told.lock ≡ CryptoApi
+    → Opens stream password scratch output answer scratch' output' → answer ≡ Ok told → told.lock ≡ CryptoApi
     → SameKeySize stream verdict told

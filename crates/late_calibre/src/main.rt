@@ -3,71 +3,48 @@
 // tools/make_late_calibre.py makes the data and what is expected.
 #![tactic(auto)]
 
-ghost use Rattle.std.specs.Prelude.{◌≡◌, length};
-
-use samples::{number, part};
+use binary_office::BiffRecord;
+use excel97::Report;
+use samples::{Reader, number, part};
 use std::io;
 
-// The lift angle in degrees, or none.
-#[derive(Clone, Copy)]
-enum Angle {
-    Degrees(usize),
-    NoAngle,
-}
-
-fn data_buffer() -> [u8; 65536]
-    ensures { 65536 ≡ length result }
-{
-    [0; 65536]
-}
-
-// The lift angle of an RK record whose header is at an offset: the number in its last four bytes, which
+// The lift angle in degrees of an RK record whose header is at an offset: the number in its last four bytes, which
 // end in 10 in binary where they hold a whole number.
-fn angle_at(sheet: &[u8], at: usize) -> Angle {
+fn angle_at(sheet: &[u8], at: usize) -> Option<usize> {
     let rk = number(part(sheet, at, 14), 10);
-    if rk % 4 == 2 {
-        Angle::Degrees(rk / 4)
-    } else {
-        Angle::NoAngle
-    }
+    (rk % 4 == 2).then_some(rk / 4)
 }
 
 // The lift angle of the last RK record.
-fn last_angle(sheet: &[u8]) -> Angle {
-    let mut last = Angle::NoAngle;
-    let mut at: usize = 0;
-    loop {
-        match binary_office::step_at(sheet, at) {
-            binary_office::Step::Record(id, len) => {
-                if id == 0x027E {
-                    last = angle_at(sheet, at);
-                }
-                at = at + 4 + (len as usize);
-            }
-            binary_office::Step::Fault(_) => return last,
-            binary_office::Step::End => return last,
+fn last_angle(sheet: &[u8]) -> Option<usize> {
+    let mut last = None;
+    for record in binary_office::biff_records(sheet, 0) {
+        if let Ok(BiffRecord { at, id: 0x027E, .. }) = record {
+            last = angle_at(sheet, at);
         }
     }
+    last
 }
 
-fn tell_angle(rt: &impl Print, angle: Angle) -> io::Result<()> {
+fn tell_angle(rt: &impl Print, angle: Option<usize>) -> io::Result<()> {
     match angle {
-        Angle::Degrees(n) => print!(rt; "{n}"),
-        Angle::NoAngle => rt.write_all(b"no angle"),
+        Some(degrees) => print!(rt; "{degrees}"),
+        None => print!(rt; "no angle"),
     }
 }
 
 // Writes what opening took.
-fn tell_counts(rt: &impl Print, report: excel97::Report) -> io::Result<()> {
-    rt.write_all(b"; ")?;
-    rt.print(report.output_bytes)?;
-    rt.write_all(b" bytes, ")?;
-    rt.print(report.records)?;
-    rt.write_all(b" records, ")?;
-    rt.print(report.enciphered_body_bytes)?;
-    rt.write_all(b" bytes enciphered, ")?;
-    rt.print(report.block_keys)?;
-    rt.write_all(b" block keys")
+fn tell_counts(rt: &impl Print, report: Report) -> io::Result<()> {
+    let Report {
+        output_bytes,
+        records,
+        enciphered_body_bytes,
+        block_keys,
+        ..
+    } = report;
+    println!(rt;
+        "; {output_bytes} bytes, {records} records, {enciphered_body_bytes} bytes enciphered, {block_keys} block keys"
+    )
 }
 
 // Opens a sheet and writes the last calibre's lift angle with what opening took, or the refusal.
@@ -75,39 +52,30 @@ fn measure(rt: &impl Print, password: &[u8], stream: &[u8]) -> io::Result<()> {
     let mut scratch = [0u8; 64];
     let mut output = [0u8; 4096];
     match excel97::open(stream, password, &mut scratch, &mut output) {
-        excel97::Answer::Opened(report) => {
+        Ok(report) => {
             tell_angle(rt, last_angle(part(&output, 0, stream.len())))?;
-            tell_counts(rt, report)?;
+            tell_counts(rt, report)
         }
-        excel97::Answer::Refused(refusal) => {
-            rt.write_all(b"refused, ")?;
-            rt.print(file_params::number(refusal))?;
+        Err(refusal) => {
+            let number = file_params::number(refusal);
+            println!(rt; "refused, {number}")
         }
     }
-    rt.write_all(b"\n")
 }
 
 // Goes through all sheets: heading, password and stream, each after its length.
 fn measure_all(rt: &impl Print, data: &[u8]) -> io::Result<()> {
-    let mut at: usize = 0;
-    while at < data.len() {
-        let heading = number(data, at);
-        let password = number(data, at + 4 + heading);
-        let stream = number(data, at + 8 + heading + password);
-        rt.write_all(part(data, at + 4, heading))?;
-        rt.write_all(b": ")?;
-        measure(
-            rt,
-            part(data, at + 8 + heading, password),
-            part(data, at + 12 + heading + password, stream),
-        )?;
-        at = at + 12 + heading + password + stream;
+    let mut sheets = Reader::new(data);
+    while !sheets.is_empty() {
+        rt.write_all(sheets.sized())?;
+        print!(rt; ": ")?;
+        let password = sheets.sized();
+        measure(rt, password, sheets.sized())?;
     }
     Ok(())
 }
 
 fn main(rt: HostRuntime) -> io::Result<()> {
-    let mut data = data_buffer();
-    let n = samples::read(&rt, b"sheets", &mut data);
-    measure_all(&rt, &data[0..n])
+    let mut data = [0u8; 65536];
+    measure_all(&rt, samples::read(&rt, b"sheets", &mut data))
 }

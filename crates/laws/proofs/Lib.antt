@@ -2,6 +2,8 @@ pub mod Choice
 pub mod Copy
 pub mod Offsets
 pub mod Parts
+pub mod Results
 pub mod Table
+pub mod Tests
 pub mod Written
 pub mod Xor

@@ -37,20 +37,19 @@ pub const SCRATCH_LEN: usize = 64;
 pub fn size_fits(size: u32) -> bool
     ensures { result ≡ within 32 1024 size }
 {
-    let bytes = size as usize;
-    (RC4_ENCRYPTION_HEADER_SIZE_MIN <= bytes) & (bytes <= RC4_ENCRYPTION_HEADER_SIZE_MAX)
+    (RC4_ENCRYPTION_HEADER_SIZE_MIN..=RC4_ENCRYPTION_HEADER_SIZE_MAX).contains(&(size as usize))
 }
 
 // A key size in bits that a lock states: what document 02's T-07 writes.
 pub fn key_size_stated(bits: u32) -> bool
     ensures { result ≡ (within 40 128 bits && eqb (bits % 8) 0) }
 {
-    (RC4_KEY_BITS_MIN <= bits) & (bits <= RC4_KEY_BITS_MAX) & (bits % 8 == 0)
+    (RC4_KEY_BITS_MIN..=RC4_KEY_BITS_MAX).contains(&bits) && bits % 8 == 0
 }
 
 // A key size in bits that is accepted: document 01's question 23, which accepts 0 too.
 pub fn key_size_fits(bits: u32) -> bool
     ensures { result ≡ (eqb bits 0 || (within 40 128 bits && eqb (bits % 8) 0)) }
 {
-    (bits == 0) | key_size_stated(bits)
+    bits == 0 || key_size_stated(bits)
 }

@@ -2,39 +2,24 @@
 // program only reads and writes.
 #![tactic(auto)]
 
-ghost use Rattle.std.specs.Prelude.{◌≡◌, length};
-
-use samples::Loaded;
 use std::io;
-
-// One byte more than the longest stream that is listed: of a longer one the rest does not matter.
-fn stream_buffer() -> [u8; 32769]
-    ensures { 32769 ≡ length result }
-{
-    [0; 32769]
-}
-
-// Room for the longest listing: 8,192 records of no body take 15 bytes each at the most.
-fn text_buffer() -> [u8; 131072]
-    ensures { 131072 ≡ length result }
-{
-    [0; 131072]
-}
 
 // Writes the listing of a stream.
 fn list(rt: &impl Print, stream: &[u8]) -> io::Result<()> {
-    let mut text = text_buffer();
+    // Room for the longest listing: 8,192 records of no body take 15 bytes each at the most.
+    let mut text = [0u8; 131072];
     let len = listing_text::listing(stream, &mut text);
-    if len <= text.len() {
-        return rt.write_all(&text[0..len]);
+    match text.get(..len) {
+        Some(listing) => rt.write_all(listing),
+        None => Ok(()),
     }
-    Ok(())
 }
 
 fn main(rt: HostRuntime) -> io::Result<()> {
-    let mut stream = stream_buffer();
+    // One byte more than the longest stream that is listed: of a longer one the rest does not matter.
+    let mut stream = [0u8; 32769];
     match samples::load(&rt, b"book.bin", &mut stream) {
-        Loaded::Bytes(n) => list(&rt, &stream[0..n]),
-        Loaded::Failed => Ok(()),
+        Some(stream) => list(&rt, stream),
+        None => Ok(()),
     }
 }

@@ -1,5 +1,10 @@
 -- Bytes behind bytes: two writes, one behind the other, are one of both. And the text of a walk, record by record.
 -- Assumes nothing.
+use Rattle.std.specs.Prelude.{Option, None, Some}
+use Rattle.binary_office.specs.declared.BiffRecord.{BiffRecord}
+use Rattle.binary_office.specs.Walk.{Walk, behind, walk}
+use Rattle.listing_text.specs.Text.{ending}
+use native.Mathlib.Omega.{arith}
 use mathlib.Core.Path.{◌≡◌, refl, sym, ap, ◌∙◌}
 use mathlib.Core.List.{List, [], ◌∷◌, ◌++◌, append_assoc, append-nil}
 use Prim.Native.Nat.{ℕ, suc, ◌+◌, ◌≤◌, ◌<◌}
@@ -9,9 +14,8 @@ use lib.ListN.{length, set, get_or, take, length-append}
 use lib.Seq.{sets, set_out, take-suc}
 use Rattle.laws.proofs.Choice.{stop, skip}
 use borrow.Author.Tests.{le-leb, lt-leb}
-use Rattle.binary_office.specs.declared.Step.TheVariants as step
-use Rattle.binary_office.specs.Walk.{step_at, walk_at}
-use Rattle.binary_office.proofs.Walks.{walk_end, walk_fault, walk_record}
+use Rattle.binary_office.specs.Records.{fault_count}
+use Rattle.binary_office.proofs.Walks.{few_records}
 use Rattle.listing_text.specs.Text.{decimal, line, lines, unreadable, header, too_long, of_walk, text, Puts}
 
 sets_join : (d : List ℕ) (n : ℕ) (xs bs : List ℕ) → sets (sets d n xs) (n + length xs) bs ≡ sets d n (xs ++ bs)
@@ -40,24 +44,8 @@ pub puts_more : {n r r' : ℕ} {d d' d'' : List ℕ} (bytes : List ℕ) (i : ℕ
     → Puts (take (i + 1) bytes) n d r' d''
 puts_more bytes i h p q = rw (add-one i, take-suc bytes i 0 h) (puts_join (take i bytes) (get_or bytes i 0 ∷ []) p q)
 
--- the text of the walk from an offset on
-abbrev pub rest : List ℕ → ℕ → List ℕ
-rest s at = of_walk (walk_at s at)
-
-pub rest_end : (s : List ℕ) (at : ℕ) → step_at s at ≡ step.End → rest s at ≡ []
-unfolding lines
-rest_end s at e = rw (walk_end s at e)
-
-pub rest_fault : (s : List ℕ) (at p : ℕ) → step_at s at ≡ step.Fault p → rest s at ≡ unreadable ++ decimal p ++ (10 ∷ [])
-unfolding lines
-rest_fault s at p e = rw (walk_fault s at p e)
-
-pub rest_record : (s : List ℕ) (at id len : ℕ) → step_at s at ≡ step.Record id len → rest s at ≡ line (record { at = at; id = id; len = len }) ++ rest s (at + 4 + len)
-unfolding lines
-rest_record s at id len e = rw (walk_record s at id len e) (append_assoc (line (record { at = at; id = id; len = len })) _ _)
-
 -- the whole listing
-pub text_short : (s : List ℕ) → length s ≤ 32768 → header ++ rest s 0 ≡ text s
+pub text_short : (s : List ℕ) → length s ≤ 32768 → header ++ of_walk (walk s) ≡ text s
 unfolding text
 text_short s h = stop _ (le-leb (length s) 32768 h)
 
@@ -65,30 +53,45 @@ pub text_long : (s : List ℕ) → 32768 < length s → too_long ≡ text s
 unfolding text
 text_long s h = skip _ (lt-leb (length s) 32768 h) refl
 
--- what the loop over the records keeps: the text so far, behind which the rest makes the whole
-pub record Listed (s : List ℕ) (n at : ℕ) (d : List ℕ) (n' : ℕ) (d' : List ℕ) : Type 0 where
+-- what the loop over the records keeps: the text so far, behind which what is left makes the whole
+pub record Listed (s : List ℕ) (n : ℕ) (w : Walk) (d : List ℕ) (n' : ℕ) (d' : List ℕ) : Type 0 where
   pub sofar : List ℕ
-  pub whole : sofar ++ rest s at ≡ rest s 0
+  pub whole : sofar ++ of_walk w ≡ of_walk (walk s)
   pub puts : Puts sofar n d n' d'
 
-pub listed_none : (s : List ℕ) (n : ℕ) (d : List ℕ) → Listed s n 0 d n d
+pub listed_none : (s : List ℕ) (n : ℕ) (d : List ℕ) → Listed s n (walk s) d n d
 listed_none s n d = record { sofar = []; whole = refl; puts = puts_none n d }
 
-pub listed_on : {n n' n'' : ℕ} {d d' d'' : List ℕ} (s : List ℕ) (at id len next : ℕ) → step_at s at ≡ step.Record id len → next ≡ at + 4 + len
-    → Listed s n at d n' d' → Puts (line (record { at = at; id = id; len = len })) n' d' n'' d'' → Listed s n next d n'' d''
-listed_on s at id len next e b l p =
-    let r = line (record { at = at; id = id; len = len }) in
-    let tail : r ++ rest s next ≡ rest s at = ap (λ (k : ℕ). r ++ rest s k) b ∙ sym (rest_record s at id len e) in
-    record {
-      sofar = l.sofar ++ r;
-      whole = append_assoc l.sofar r (rest s next) ∙ ap (λ (t : List ℕ). l.sofar ++ t) tail ∙ l.whole;
-      puts = puts_join l.sofar r l.puts p;
-    }
+module _ (s : List ℕ) (n n' : ℕ) (w : Walk) (d d' : List ℕ) (l : Listed s n w d n' d') where
+  pub listed_on : {n'' : ℕ} {d'' : List ℕ} (r : BiffRecord) (left : Walk) → w ≡ behind r left → Puts (line r) n' d' n'' d'' → Listed s n left d n'' d''
+  unfolding lines
+  listed_on r left e p =
+      let tail : line r ++ of_walk left ≡ of_walk w = sym (ap of_walk e ∙ append_assoc (line r) (lines left.records) (ending left.fault)) in
+      record {
+        sofar = l.sofar ++ line r;
+        whole = append_assoc l.sofar (line r) (of_walk left) ∙ ap (λ (t : List ℕ). l.sofar ++ t) tail ∙ l.whole;
+        puts = puts_join l.sofar (line r) l.puts p;
+      }
 
-pub listed_end : {n n' : ℕ} {d d' : List ℕ} (s : List ℕ) (at : ℕ) → step_at s at ≡ step.End → Listed s n at d n' d' → Puts (rest s 0) n d n' d'
-listed_end s at e l = rw (sym l.whole ∙ ap (λ (t : List ℕ). l.sofar ++ t) (rest_end s at e) ∙ append-nil l.sofar) l.puts
+  pub listed_fault : {n'' : ℕ} {d'' : List ℕ} (p : ℕ) → w ≡ record { records = []; fault = Some p }
+      → Puts (unreadable ++ decimal p ++ (10 ∷ [])) n' d' n'' d'' → Listed s n (record { records = []; fault = None }) d n'' d''
+  unfolding lines
+  listed_fault p e q =
+      let told = unreadable ++ decimal p ++ (10 ∷ []) in
+      record {
+        sofar = l.sofar ++ told;
+        whole = append-nil (l.sofar ++ told) ∙ ap (λ (t : List ℕ). l.sofar ++ t) (sym (ap of_walk e)) ∙ l.whole;
+        puts = puts_join l.sofar told l.puts q;
+      }
 
-pub listed_fault : {n n' n'' : ℕ} {d d' d'' : List ℕ} (s : List ℕ) (at p : ℕ) → step_at s at ≡ step.Fault p → Listed s n at d n' d'
-    → Puts (unreadable ++ decimal p ++ (10 ∷ [])) n' d' n'' d'' → Puts (rest s 0) n d n'' d''
-listed_fault s at p e l q =
-    rw (sym l.whole ∙ ap (λ (t : List ℕ). l.sofar ++ t) (rest_fault s at p e)) (puts_join l.sofar (unreadable ++ decimal p ++ (10 ∷ [])) l.puts q)
+  pub listed_all : w ≡ record { records = []; fault = None } → Puts (of_walk (walk s)) n d n' d'
+  unfolding lines
+  listed_all e = rw (sym l.whole ∙ ap (λ (t : List ℕ). l.sofar ++ t) (ap of_walk e) ∙ append-nil l.sofar) l.puts
+
+-- a walk has no more items than its stream has bytes, and one
+pub few_items : (s : List ℕ) (w : Walk) → w ≡ walk s → length w.records + fault_count w.fault ≤ length s + 1
+few_items s w e = rw e (let few = few_records s 0 (omega arith) in let one = at_most_one (walk s).fault in omega arith)
+  where
+    at_most_one : (o : Option ℕ) → fault_count o ≤ 1
+    at_most_one None = omega arith
+    at_most_one (Some p) = omega arith

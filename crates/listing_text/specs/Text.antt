@@ -1,11 +1,10 @@
 -- The listing's text (document 01, "The walk and its listing"), as ASCII: a header, a line for each record, a line for a fault.
 -- Assumes nothing.
-use Rattle.std.specs.Prelude.{◌≡◌, ℕ, zero, suc, ◌+◌, ◌/◌, ◌%◌, List, [], ◌∷◌, ◌++◌, leb, ltb, length}
+use Rattle.std.specs.Prelude.{◌≡◌, ℕ, zero, suc, ◌+◌, ◌/◌, ◌%◌, List, [], ◌∷◌, ◌++◌, leb, ltb, length, Some, None, Option}
 use Rattle.std.proofs.lemmas.List.Edits.{sets}
 use Rattle.laws.specs.Choice.{pick}
-use Rattle.binary_office.specs.declared.WalkEnd.{WalkEnd}
-use Rattle.binary_office.specs.declared.WalkEnd.TheVariants as end
-use Rattle.binary_office.specs.Walk.{BiffRecord, Walk, walk, clear_len}
+use Rattle.binary_office.specs.declared.BiffRecord.{BiffRecord}
+use Rattle.binary_office.specs.Walk.{Walk, walk, clear_len}
 
 -- a number in decimal digits; the first argument bounds their number, and n has at most n + 1
 unfoldable pub digits : ℕ → ℕ → List ℕ
@@ -42,12 +41,12 @@ header = 97 ∷ 116 ∷ 9 ∷ 105 ∷ 100 ∷ 9 ∷ 108 ∷ 101 ∷ 110 ∷ 103 
 abbrev pub unreadable : List ℕ
 unreadable = 117 ∷ 110 ∷ 114 ∷ 101 ∷ 97 ∷ 100 ∷ 97 ∷ 98 ∷ 108 ∷ 101 ∷ 9 ∷ []
 
-abbrev pub ending : WalkEnd → List ℕ
-ending end.Clean = []
-ending (end.Fault p) = unreadable ++ decimal p ++ (10 ∷ [])
+abbrev pub ending : (Option ℕ) → List ℕ
+ending None = []
+ending (Some p) = unreadable ++ decimal p ++ (10 ∷ [])
 
 abbrev pub of_walk : Walk → List ℕ
-of_walk w = lines w.records ++ ending w.ends
+of_walk w = lines w.records ++ ending w.fault
 
 -- "too long"
 abbrev pub too_long : List ℕ

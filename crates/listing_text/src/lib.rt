@@ -3,10 +3,10 @@
 #![tactic(auto)]
 
 ghost use Rattle.std.specs.Prelude.{◌≡◌, [], ◌∷◌, ◌++◌, ℕ, ◌+◌, ◌*◌, ◌/◌, ◌%◌, ◌^◌, ◌≤◌, ◌<◌, length};
-ghost use Rattle.binary_office.specs.Walk.{BiffRecord, walk};
+ghost use Rattle.binary_office.specs.Walk.{walk};
 ghost use Rattle.listing_text.specs.Text.{decimal, placed, hex_digit, hex4, line, unreadable, of_walk, text, Puts};
 
-use binary_office::Step;
+use binary_office::BiffRecord;
 
 // Writes a byte at an offset, if there is room, and returns the next offset.
 fn put(out: &mut [u8], n: usize, b: u8) -> usize
@@ -87,17 +87,17 @@ fn put_hex(out: &mut [u8], n: usize, id: u16) -> usize
 }
 
 // Writes a record's line.
-fn put_line(out: &mut [u8], n: usize, at: usize, id: u16, len: u16) -> usize
-    requires { (n < 2 ^ 60) × (at < 100000) }
-    ensures { Puts (line (record { at = at; id = id; len = len })) n out.old result out.new × (result ≤ n + 23) }
+fn put_line(out: &mut [u8], n: usize, r: BiffRecord) -> usize
+    requires { (n < 2 ^ 60) × (r.at < 100000) }
+    ensures { Puts (line r) n out.old result out.new × (result ≤ n + 23) }
 {
-    let n = put_decimal(out, n, at);
+    let n = put_decimal(out, n, r.at);
     let n = put(out, n, 9);
-    let n = put_hex(out, n, id);
+    let n = put_hex(out, n, r.id);
     let n = put(out, n, 9);
-    let n = put_decimal(out, n, len as usize);
+    let n = put_decimal(out, n, r.len as usize);
     let n = put(out, n, 9);
-    let n = put_decimal(out, n, binary_office::clear_len(id, len) as usize);
+    let n = put_decimal(out, n, binary_office::clear_len(r.id, r.len) as usize);
     put(out, n, 10)
 }
 
@@ -117,19 +117,13 @@ fn put_walk(out: &mut [u8], n: usize, stream: &[u8]) -> usize
     ensures { Puts (of_walk (walk stream.now)) n out.old result out.new }
 {
     let mut n = n;
-    let mut at: usize = 0;
-    loop {
-        let reached = binary_office::record_at(stream, at);
-        let step = reached.found;
-        match step {
-            Step::End => return n,
-            Step::Fault(place) => return put_fault(out, n, place),
-            Step::Record(id, len) => {
-                n = put_line(out, n, at, id, len);
-                at = reached.next;
-            }
-        }
+    for record in binary_office::biff_records(stream, 0) {
+        n = match record {
+            Ok(next) => put_line(out, n, next),
+            Err(place) => put_fault(out, n, place),
+        };
     }
+    n
 }
 
 // Writes the listing of a stream to the start of a buffer, as far as there is room, and returns how long it is.

@@ -2,24 +2,17 @@
 // and gives its length. tools/make_listings.py makes the data and what is expected.
 #![tactic(auto)]
 
-ghost use Rattle.std.specs.Prelude.{◌≡◌, length};
-
+use samples::Reader;
 use std::io;
-
-fn data_buffer() -> [u8; 196608]
-    ensures { 196608 ≡ length result }
-{
-    [0; 196608]
-}
 
 // Writes the listing of a stream.
 fn list(rt: &impl Print, stream: &[u8]) -> io::Result<()> {
-    let mut text = data_buffer();
+    let mut text = [0u8; 196608];
     let len = listing_text::listing(stream, &mut text);
-    if len <= text.len() {
-        return rt.write_all(&text[0..len]);
+    match text.get(..len) {
+        Some(listing) => rt.write_all(listing),
+        None => Ok(()),
     }
-    Ok(())
 }
 
 // Writes the line before a listing.
@@ -30,19 +23,17 @@ fn announce(rt: &impl Print, number: u64, len: usize) -> io::Result<()> {
 // Writes the listings of all streams: each comes after its length of four bytes.
 fn list_all(rt: &impl Print, all: &[u8]) -> io::Result<()> {
     let mut number: u64 = 1;
-    let mut at: usize = 0;
-    while at < all.len() {
-        let len = samples::number(all, at);
+    let mut streams = Reader::new(all);
+    while !streams.is_empty() {
+        let len = streams.number();
         announce(rt, number, len)?;
-        list(rt, samples::part(all, at + 4, len))?;
-        number = std::num::wrapping_add_u64(number, 1);
-        at = at + 4 + len;
+        list(rt, streams.bytes(len))?;
+        number = number.wrapping_add(1);
     }
     Ok(())
 }
 
 fn main(rt: HostRuntime) -> io::Result<()> {
-    let mut all = data_buffer();
-    let n = samples::read(&rt, b"streams", &mut all);
-    list_all(&rt, &all[0..n])
+    let mut all = [0u8; 196608];
+    list_all(&rt, samples::read(&rt, b"streams", &mut all))
 }

@@ -1,3 +1,3 @@
 pub mod Blocks
-pub mod Filled
+pub mod Mark
 pub mod Size

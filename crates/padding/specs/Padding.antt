@@ -2,8 +2,7 @@
 -- FIPS 180-4 sections 5.1.1, 5.2.1 and 6.1.2; RFC 1321 sections 3.1, 3.2 and 3.4. Messages are of whole bytes.
 -- The two differ in the order of the eight length bytes, the starting value and the function on one block, which are parameters here.
 -- Assumes nothing.
-use Rattle.std.specs.Prelude.{ℕ, zero, suc, ◌+◌, ◌-◌, ◌*◌, ◌/◌, ◌%◌, ◌^◌, List, [], ◌∷◌, ◌++◌, length, take, drop, replicate}
-use Rattle.padding.specs.declared.Tail.{Tail}
+use Rattle.std.specs.Prelude.{ℕ, zero, suc, ◌-◌, ◌*◌, ◌/◌, ◌%◌, ◌^◌, List, [], ◌∷◌, ◌++◌, length, take, drop, replicate}
 
 -- a length of 64 bits as bytes, the most significant first (FIPS 180-4 5.1.1), and the least significant first (RFC 1321 3.2).
 -- Of a greater length RFC 1321 takes the low 64 bits, and so does SHA-1 here, where FIPS 180-4 admits none.
@@ -34,9 +33,3 @@ hash_end f order h m total = let padded = m ++ ending (length m) (order (8 * tot
 -- the hash of a whole message, from the starting value on
 abbrev pub hash : {S : Type 0} → (S → List ℕ → S) → (ℕ → List ℕ) → S → List ℕ → S
 hash f order start m = hash_end f order start m (length m)
-
--- what follows the whole blocks of m, with the ending: 64 bytes or 128, and zeros behind them up to 128
-unfoldable pub tail_of : List ℕ → List ℕ → Tail
-tail_of m size =
-    let n = length m % 64 + 1 + zeros (length m) + 8 in
-    record { bytes = (drop (length m - length m % 64) m ++ ending (length m) size) ++ replicate (128 - n) 0; len = n }

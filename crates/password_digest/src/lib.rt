@@ -3,139 +3,81 @@
 // here its UTF-16LE text goes through 64 bytes of memory that the caller lends, a block at a time.
 #![tactic(auto)]
 
-ghost use Rattle.std.specs.Prelude.{◌≡◌, ℕ, ◌<◌, ◌≤◌, List, ◌++◌, length, drop, replicate, nat_le};
-ghost use Rattle.std.proofs.Math.Option.{some};
-ghost use Rattle.std.proofs.Math.Seq.{paste};
+ghost use Rattle.std.specs.Prelude.{◌≡◌, ℕ, ◌<◌, ◌≤◌, List, ◌++◌, length, drop, replicate, nat_le, Some};
 ghost use Rattle.laws.specs.Choice.{pick};
-ghost use Rattle.padding.specs.Padding.{hash_end, be64, le64};
+ghost use Rattle.padding.specs.Padding.{hash_end, hash};
 ghost use Rattle.sensitive.specs.Utf16.{encoded};
-ghost use Rattle.sha_1.specs.Sha1 as sha1;
-ghost use Rattle.md_5.specs.Md5 as md5;
-ghost use Rattle.password_digest.specs.Filling.{Steps, Fills};
-ghost use Rattle.password_digest.specs.Digest.{sha1_of, md5_of, Digests};
+ghost use Rattle.password_digest.specs.Filling.{Steps, Fills, Answers};
+ghost use Rattle.password_digest.specs.Digest.{spelt, sha1_of, md5_of, Digests};
 
-// A SHA-1 digest: ok says whether there is one.
-#[derive(Clone, Copy)]
-pub struct Sha1Digest {
-    pub ok: bool,
-    pub bytes: [u8; 20],
-}
+mod place;
 
-// An MD5 digest: ok says whether there is one.
-#[derive(Clone, Copy)]
-pub struct Md5Digest {
-    pub ok: bool,
-    pub bytes: [u8; 16],
-}
+use crate::place::{Filled, Place};
+use padding::BlockHash;
 
-// The next byte of a text in UTF-16LE and the next place, an offset of the text and how many bytes
-// of the character there are out; or that the text ends.
-#[derive(Clone, Copy)]
-enum Step {
-    Byte(u8, usize, usize),
-    Done,
-}
-
-// A place of the text, and how many bytes are in the block.
-#[derive(Clone, Copy)]
-struct Filled {
-    at: usize,
-    skip: usize,
-    n: usize,
-}
-
-// The byte of the encoding at a place of the text.
-fn next_byte(text: &[u8], at: usize, skip: usize) -> Step
-    requires { skip < 4 }
-    ensures { Steps text.now at skip result }
+// The byte of the encoding at a place of the text, and the next place; none where the text ends.
+fn next_byte(text: &[u8], place: Place) -> Option<(u8, Place)>
+    ensures { Steps text.now place.at place.skip result }
 {
-    match sensitive::char_at(text, at) {
+    match sensitive::char_at(text, place.at) {
         sensitive::Char::Point(point, next) => {
             let units = sensitive::utf16le(point);
-            let bytes = units.bytes;
-            let more = skip + 1;
+            let byte = units.bytes[place.skip];
+            let at = place.at;
+            let more = place.skip + 1;
             if more < units.len {
-                return Step::Byte(bytes[skip], at, more);
+                return Some((byte, Place { at, skip: more }));
             }
-            Step::Byte(bytes[skip], next, 0)
+            Some((byte, Place { at: next, skip: 0 }))
         }
-        sensitive::Char::Malformed => Step::Done,
-        sensitive::Char::End => Step::Done,
+        sensitive::Char::Malformed => None,
+        sensitive::Char::End => None,
     }
 }
 
 // Writes the encoding's bytes from a place of the text on to the block, from its n-th byte on, until the
 // block is full or the text ends.
-fn fill(text: &[u8], at: usize, skip: usize, block: &mut [u8], n: usize) -> Filled
-    requires { (length block.old ≡ 64) × (n ≤ 64) × (skip < 4) }
-    ensures { Fills text.now block.old at skip n block.new result.at result.skip result.n }
+fn fill(text: &[u8], place: Place, block: &mut [u8], n: usize) -> Filled
+    requires { (length block.old ≡ 64) × (n ≤ 64) }
+    ensures { Fills text.now block.old place.at place.skip n block.new result.place.at result.place.skip result.n }
 {
-    let mut at = at;
-    let mut skip = skip;
-    let mut n = n;
-    while n < 64 {
-        match next_byte(text, at, skip) {
-            Step::Byte(byte, next, more) => {
-                block[n] = byte;
-                n += 1;
-                at = next;
-                skip = more;
+    let mut place = place;
+    for i in n..64 {
+        match next_byte(text, place) {
+            Some((byte, next)) => {
+                block[i] = byte;
+                place = next;
             }
-            Step::Done => return Filled { at, skip, n },
+            None => return Filled { place, n: i },
         }
     }
-    Filled { at, skip, n }
+    Filled { place, n: 64 }
 }
 
 // Writes the encoding's next bytes to the block, from its start on: the bytes of the block before are hashed.
 fn refill(text: &[u8], f: Filled, block: &mut [u8]) -> Filled
-    requires { (length block.old ≡ 64) × (f.skip < 4) }
-    ensures { Fills text.now block.old f.at f.skip 0 block.new result.at result.skip result.n }
+    requires { length block.old ≡ 64 }
+    ensures { Fills text.now block.old f.place.at f.place.skip 0 block.new result.place.at result.place.skip result.n }
 {
-    fill(text, f.at, f.skip, block, 0)
+    fill(text, f.place, block, 0)
 }
 
-// Copies the salt to the start of the block.
-fn put_salt(salt: [u8; 16], block: &mut [u8])
-    requires { length block.old ≡ 64 }
-    ensures { block.new ≡ paste block.old 0 salt 16 }
+// The hash of some bytes and a text in UTF-16LE, through a block; total is the number of bytes that is stated at the end.
+fn hash_text<H: BlockHash>(before: &[u8], text: &[u8], block: &mut [u8], total: u64) -> H::Digest
+    requires block_len { length block.old ≡ 64 }
+    requires room { length before.now ≤ 64 }
+    ensures { (e : List ℕ) → encoded text.now ≡ Some e → result ≡ H.digest_of (hash_end H.after_block H.size_bytes H.initial (before.now ++ e) total) }
 {
-    let mut i: usize = 0;
-    while i < 16 {
-        block[i] = salt[i];
-        i += 1;
-    }
-}
-
-// SHA-1 of the salt and a text in UTF-16LE, through a block; total is the number of bytes that is stated at the end.
-fn sha1_text(salt: [u8; 16], text: &[u8], block: &mut [u8], total: u64) -> [u8; 20]
-    requires { length block.old ≡ 64 }
-    ensures { (e : List ℕ) → encoded text.now ≡ some e → result ≡ sha1.output (hash_end sha1.compressed be64 sha1.start (salt ++ e) total) }
-{
-    put_salt(salt, block);
-    let mut h = sha_1::init();
-    let mut f = fill(text, 0, 0, block, 16);
+    let k = before.len();
+    block[..k].copy_from_slice(before);
+    let mut h = H::init();
+    let mut f = fill(text, Place { at: 0, skip: 0 }, block, k);
     while f.n == 64 {
-        h = sha_1::compress_all(h, block);
+        h = padding::compress_all(h, block);
         f = refill(text, f, block);
     }
     let n = f.n;
-    sha_1::finish(h, &block[..n], total)
-}
-
-// MD5 of a text in UTF-16LE, through a block; total is the number of bytes that is stated at the end.
-fn md5_text(text: &[u8], block: &mut [u8], total: u64) -> [u8; 16]
-    requires { length block.old ≡ 64 }
-    ensures { (e : List ℕ) → encoded text.now ≡ some e → result ≡ md5.output (hash_end md5.compressed le64 md5.start e total) }
-{
-    let mut h = md_5::init();
-    let mut f = fill(text, 0, 0, block, 0);
-    while f.n == 64 {
-        h = md_5::compress_all(h, block);
-        f = refill(text, f, block);
-    }
-    let n = f.n;
-    md_5::finish(h, &block[..n], total)
+    padding::finish(h, &block[..n], total)
 }
 
 // Zeroes the block at the start of the scratch.
@@ -145,51 +87,42 @@ fn clear(scratch: &mut [u8])
     sensitive::wipe(scratch, 64);
 }
 
-// SHA-1 of a salt and the password in UTF-16LE.
-pub fn sha1_password(salt: [u8; 16], password: &[u8], scratch: &mut [u8]) -> Sha1Digest
-    ensures { Digests (sha1_of salt password.now) 20 password.now scratch.old result.ok result.bytes scratch.new }
+// The hash of some bytes and the password in UTF-16LE.
+fn hash_password<H: BlockHash>(
+    before: &[u8],
+    password: &[u8],
+    scratch: &mut [u8],
+) -> Option<H::Digest>
+    requires { length before.now ≤ 64 }
+    ensures { Answers (H.digest_of (hash H.after_block H.size_bytes H.initial (before.now ++ spelt password.now))) password.now scratch.old result scratch.new }
 {
-    let none = Sha1Digest {
-        ok: false,
-        bytes: [0u8; 20],
-    };
     if scratch.len() < 64 {
-        return none;
+        return None;
     }
     match sensitive::utf16le_len(password) {
-        sensitive::Length::Bytes(len) => {
-            let total = std::num::wrapping_add_u64(len as u64, 16);
-            let bytes = sha1_text(salt, password, &mut scratch[..64], total);
+        Some(len) => {
+            let total = (len as u64).wrapping_add(before.len() as u64);
+            let digest = hash_text::<H>(before, password, &mut scratch[..64], total);
             clear(scratch);
-            Sha1Digest { ok: true, bytes }
+            Some(digest)
         }
-        sensitive::Length::Malformed => {
+        None => {
             clear(scratch);
-            none
+            None
         }
     }
 }
 
-// MD5 of the password in UTF-16LE.
-pub fn md5_password(password: &[u8], scratch: &mut [u8]) -> Md5Digest
-    ensures { Digests (md5_of password.now) 16 password.now scratch.old result.ok result.bytes scratch.new }
+// SHA-1 of a salt and the password in UTF-16LE.
+pub fn sha1_password(salt: [u8; 16], password: &[u8], scratch: &mut [u8]) -> Option<[u8; 20]>
+    ensures { Digests (sha1_of salt password.now) password.now scratch.old result scratch.new }
 {
-    let none = Md5Digest {
-        ok: false,
-        bytes: [0u8; 16],
-    };
-    if scratch.len() < 64 {
-        return none;
-    }
-    match sensitive::utf16le_len(password) {
-        sensitive::Length::Bytes(len) => {
-            let bytes = md5_text(password, &mut scratch[..64], len as u64);
-            clear(scratch);
-            Md5Digest { ok: true, bytes }
-        }
-        sensitive::Length::Malformed => {
-            clear(scratch);
-            none
-        }
-    }
+    hash_password::<sha_1::State>(&salt, password, scratch)
+}
+
+// MD5 of the password in UTF-16LE.
+pub fn md5_password(password: &[u8], scratch: &mut [u8]) -> Option<[u8; 16]>
+    ensures { Digests (md5_of password.now) password.now scratch.old result scratch.new }
+{
+    hash_password::<md_5::State>(&[], password, scratch)
 }

@@ -4,19 +4,20 @@
 use mathlib.Core.Path.{◌≡◌, refl, sym, ap, ◌∙◌}
 use mathlib.Core.List.{List}
 use mathlib.Core.Bool.{Bool, true, false}
+use Rattle.std.specs.Prelude.{Some, None}
 use Prim.Native.Nat.{ℕ, zero, suc, ◌+◌, ◌%◌, ◌≤◌, ◌<◌, min}
-use native.Mathlib.Nat.{add_comm, add-zero, add-suc, mod-eq_of_lt}
+use native.Mathlib.Nat.{add_comm, add-zero, add-suc}
 use native.Mathlib.Numerals.{add-one}
 use native.Mathlib.Omega.{arith}
 use borrow.Author.Tests.{eq-eqb, ne_eqb}
 use lib.Dec.{eqb}
-use lib.ListN.{length, get_or, set, length-set}
-use lib.Seq.{get_or-set_same, get_or-set_other}
+use lib.ListN.{length, get_or, take, set, length-set}
+use lib.Seq.{get_or-set_same, get_or-set_other, take_all}
 use Rattle.laws.specs.Choice.{pick, within}
-use Rattle.laws.proofs.Choice.{same_or, stop, skip, within_yes, within_from, within_to}
+use Rattle.laws.specs.Offsets.{tabulate}
+use Rattle.laws.proofs.Choice.{same_or, stop, skip, within_yes, within_from}
 use Rattle.laws.proofs.Written.{Written, written_all}
 use Rattle.rc4.specs.declared.Keystream.{Keystream}
-use Rattle.rc4.specs.declared.Made.{Made}
 use Rattle.rc4.specs.Rc4.{identity, swap, mix, mixing, keyed, made, next, given, after, byte_from, applied, Applies}
 
 pub length_swap : (t : List ℕ) (i j : ℕ) → length (swap t i j) ≡ length t
@@ -37,6 +38,11 @@ module _ (t : List ℕ) (i j : ℕ) (hi : i < length t) (hj : j < length t) wher
 
   swap_sum : get_or (swap t i j) i 0 + get_or (swap t i j) j 0 ≡ get_or t i 0 + get_or t j 0
   swap_sum = rw (at_i, at_j) (add_comm (get_or t j 0) (get_or t i 0))
+
+-- a table filled with 0 to 255
+pub filled : (i : ℕ) (t : List ℕ) → 256 ≡ i → length t ≡ 256 → take i t ≡ tabulate (λ (n : ℕ). n) i → t ≡ identity
+unfolding identity
+filled i t e h w = sym (take_all 256 t (omega arith)) ∙ (rw (← e) at w)
 
 -- the early load: the entry at another index than i after the swap is entry i where that index is j, and else what stood there before
 pub entry_after : (t : List ℕ) (i j m : ℕ) → j < length t → (m ≡ i → ⊥) → get_or (swap t i j) m 0 ≡ pick (eqb m j) (get_or t i 0) (get_or t m 0)
@@ -80,40 +86,48 @@ module _ (k : Keystream) (t : List ℕ) (i j n i' j' : ℕ) (e : record { table 
   byte_more hi hj = ap (λ (s : ℕ). get_or (swap t i' j') (s % 256) 0) (sym (swap_sum t i' j' hi hj)) ∙ ap given (after_more ∙ ap (after k) (add-one n))
 
 -- what the loop over the bytes leaves
-pub applies : (k k₀ : Keystream) (s d t d' : List ℕ) (i j n m : ℕ) → k₀ ≡ k → m ≡ min (length s) (length d) → n ≡ m → i < 256 → j < 256
-    → record { table = t; i = i; j = j } ≡ after k₀ n → Written (applied k₀ s) 0 n d d' → Applies k s d (record { table = t; i = i % 256; j = j % 256 }) d'
-applies k k₀ s d t d' i j n m s₀ em en hi hj e w =
-    let q : n ≡ min (length s) (length d) = en ∙ em in
+pub applies : (k : Keystream) (s d t d' : List ℕ) (i j n : ℕ) → n ≡ min (length s) (length d)
+    → record { table = t; i = i; j = j } ≡ after k n → Written (applied k s) 0 n d d' → Applies k s d (record { table = t; i = i; j = j }) d'
+applies k s d t d' i j n q e w =
     let le : n ≤ length d = omega arith in
     record {
-      keystream = rw (mod-eq_of_lt hi, mod-eq_of_lt hj) (e ∙ rw (s₀, q));
-      bytes = written_all (applied k₀ s) n d d' le w ∙ rw (s₀, q);
+      keystream = rw (← q) e;
+      bytes = rw q at (written_all (applied k s) n d d' le w);
     }
 
+-- a keystream that starts with a key's table
+pub table_keyed : (key t : List ℕ) → t ≡ (mixing key 256).table → record { table = t; i = 0; j = 0 } ≡ keyed key
+unfolding keyed
+table_keyed key t e = ap (λ (l : List ℕ). record { table = l; i = 0; j = 0 }) e
+
 -- what making a keystream answers, by the key's length
-pub made_keyed : (key : List ℕ) → 5 ≤ length key → length key ≤ 16 → record { ok = true; keystream = record { table = (mixing key 256).table; i = 0; j = 0 } } ≡ made key
-unfolding made keyed
-made_keyed key g h = stop _ (within_yes 5 16 (length key) g h)
-
--- the table that the answer has, by whether the length fits
-pub table_mixed : (key : List ℕ) → within 5 16 (length key) ≡ true → (mixing key 256).table ≡ (made key).keystream.table
-table_mixed key e = ap (λ (m : Made). m.keystream.table) (made_keyed key (within_from 5 16 (length key) e) (within_to 5 16 (length key) e))
-
-pub table_unmixed : (key : List ℕ) → within 5 16 (length key) ≡ false → identity ≡ (made key).keystream.table
+pub made_some : (key : List ℕ) → within 5 16 (length key) ≡ true → Some (keyed key) ≡ made key
 unfolding made
-table_unmixed key e = ap (λ (m : Made). m.keystream.table) (skip _ e refl)
+made_some key e = stop _ e
 
--- the answer is put together from whether the length fits, the table, and both indices at 0
-pub made_of : (key t : List ℕ) (ok : Bool) → ok ≡ within 5 16 (length key) → t ≡ (made key).keystream.table
-    → record { ok = ok; keystream = record { table = t; i = 0; j = 0 } } ≡ made key
+pub made_none : (key : List ℕ) → within 5 16 (length key) ≡ false → None ≡ made key
 unfolding made
-made_of key t true e g =
-    let fits : within 5 16 (length key) ≡ true = sym e in
-    ap (λ (u : List ℕ). record { ok = true; keystream = record { table = u; i = 0; j = 0 } }) (g ∙ sym (table_mixed key fits))
-    ∙ made_keyed key (within_from 5 16 (length key) fits) (within_to 5 16 (length key) fits)
-made_of key t false e g =
-    let unfit : within 5 16 (length key) ≡ false = sym e in
-    ap (λ (u : List ℕ). record { ok = false; keystream = record { table = u; i = 0; j = 0 } }) (g ∙ sym (table_unmixed key unfit)) ∙ skip _ unfit refl
+made_none key e = skip _ e refl
+
+pub made_keyed : (key : List ℕ) → 5 ≤ length key → length key ≤ 16 → Some (keyed key) ≡ made key
+made_keyed key g h = made_some key (within_yes 5 16 (length key) g h)
+
+-- what the answer says of the key
+pub some_fits : (key : List ℕ) (k : Keystream) → made key ≡ Some k → (within 5 16 (length key) ≡ true) × (k ≡ keyed key)
+unfolding made pick
+some_fits key k = by (within 5 16 (length key))
+  where
+    by : (t : Bool) → pick t (Some (keyed key)) None ≡ Some k → (t ≡ true) × (k ≡ keyed key)
+    by true e = (refl, cc)
+    by false e = cc
+
+pub none_fits : (key : List ℕ) → made key ≡ None → within 5 16 (length key) ≡ false
+unfolding made pick
+none_fits key = by (within 5 16 (length key))
+  where
+    by : (t : Bool) → pick t (Some (keyed key)) None ≡ None → t ≡ false
+    by true e = cc
+    by false e = refl
 
 -- a key that fits has bytes
 pub some_bytes : (key : List ℕ) → within 5 16 (length key) ≡ true → 0 < length key

@@ -1,11 +1,11 @@
 -- RC4 as document 01 has it ("The three locks", RC4). Sums of the table's indices and entries are modulo 256.
 -- Assumes nothing.
-use Rattle.std.specs.Prelude.{◌≡◌, ℕ, zero, suc, ◌+◌, ◌-◌, ◌/◌, ◌%◌, min, true, false, List, [], ◌∷◌, ◌++◌, eqb, ltb, length, get_or, set, drop}
+use Rattle.std.specs.Prelude.{◌≡◌, ℕ, zero, suc, ◌+◌, ◌-◌, ◌/◌, ◌%◌, min, List, [], ◌∷◌, ◌++◌, Option, Some, None, eqb, ltb, length, get_or, set, drop}
 use Rattle.std.specs.Int.Bits.{bit_xor}
+use Rattle.std.proofs.Props.{props}
 use Rattle.laws.specs.Choice.{pick, within}
 use Rattle.laws.specs.Offsets.{tabulate}
 use Rattle.rc4.specs.declared.Keystream.{Keystream}
-use Rattle.rc4.specs.declared.Made.{Made}
 
 -- the table starts as 0 to 255
 unfoldable pub identity : List ℕ
@@ -64,10 +64,10 @@ byte_from k n = given (after k (suc n))
 abbrev pub keystream_byte : List ℕ → ℕ → ℕ
 keystream_byte key n = byte_from (keyed key) n
 
--- a keystream is made from a key of 5 to 16 bytes; any other length yields none, and the unmixed table beside it
-unfoldable pub made : List ℕ → Made
+-- a keystream is made from a key of 5 to 16 bytes, and none from a key of any other length
+unfoldable pub made : List ℕ → Option Keystream
 unfolding pick
-made key = pick (within 5 16 (length key)) (record { ok = true; keystream = keyed key }) (record { ok = false; keystream = record { table = identity; i = 0; j = 0 } })
+made key = pick (within 5 16 (length key)) (Some (keyed key)) None
 
 -- a byte of s, exclusive-or the keystream byte for its offset
 abbrev pub applied : Keystream → List ℕ → ℕ → ℕ
@@ -108,3 +108,8 @@ count v (x ∷ xs) = pick (eqb v x) 1 0 + count v xs
 unfoldable pub Rearranged : List ℕ → Type 0
 unfolding count pick
 Rearranged t = (length t ≡ 256) × ((v : ℕ) → count v t ≡ pick (ltb v 256) 1 0)
+
+-- there is at most one proof of it, as a ghost field wants
+pub Rearranged-prop : (t : List ℕ) → IsProp (Rearranged t)
+unfolding Rearranged
+Rearranged-prop t = Prim.hlevel props

@@ -1,13 +1,10 @@
 -- A CryptoAPI structure, read: MS-OFFCRYPTO 2.3.5.1 with 2.3.2 and 2.3.3, as document 01's questions 15 to 26 have it.
 -- Assumes nothing.
-use Rattle.std.specs.Prelude.{ℕ, ◌+◌, List, eqb}
-use Rattle.std.proofs.Math.Option.{Option, none, some}
+use Rattle.std.specs.Prelude.{ℕ, ◌+◌, List, eqb, Result}
 use Rattle.laws.specs.Choice.{pick}
 use Rattle.file_params.specs.declared.Refusal.{Refusal}
-use Rattle.file_params.specs.Questions.{asked, crypto_api, header_flags, key_size, verifier_at}
+use Rattle.file_params.specs.Questions.{asked, unless, crypto_api, header_flags, key_size, verifier_at}
 use Rattle.rc4_cryptoapi.specs.declared.CryptoApiHeader.{CryptoApiHeader}
-use Rattle.rc4_cryptoapi.specs.declared.Parsed.{Parsed}
-use Rattle.rc4_cryptoapi.specs.declared.Parsed.TheVariants.{Header, Refused}
 
 -- the key size in bits; zero means 40
 abbrev pub key_bits : List ℕ → ℕ
@@ -25,9 +22,5 @@ header structure =
     }
 
 -- that, or the first refusal
-abbrev pub unless : CryptoApiHeader → Option Refusal → Parsed
-unless h none = Header h
-unless h (some r) = Refused r
-
-unfoldable pub parsed : List ℕ → Parsed
+unfoldable pub parsed : List ℕ → Result CryptoApiHeader Refusal
 parsed structure = unless (header structure) (asked (crypto_api structure))

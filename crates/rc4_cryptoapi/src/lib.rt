@@ -10,6 +10,8 @@ ghost use Rattle.sensitive.specs.Derived.{derived};
 ghost use Rattle.rc4_cryptoapi.specs.Keys.{hfinal, block_key};
 ghost use Rattle.rc4_cryptoapi.specs.Parse.{parsed};
 
+use file_params::Refusal;
+
 // The structure's version, flags and header size; the fields of the verifier, in all.
 const PREFIX_LEN: usize = 12;
 
@@ -30,20 +32,13 @@ const FLAG_EXTERNAL: u32 = 0x10;
 const FLAG_AES: u32 = 0x20;
 
 // What a structure says: the key size in bits, the flags, and where salt, verifier and its hash start.
-#[derive(Clone, Copy)]
+#[derive(Clone, Copy, Debug, PartialEq, Eq)]
 pub struct CryptoApiHeader {
     pub key_bits: u32,
     pub flags: u32,
     pub salt: usize,
     pub encrypted_verifier: usize,
     pub encrypted_verifier_hash: usize,
-}
-
-// What came of reading a structure.
-#[derive(Clone, Copy)]
-pub enum Parsed {
-    Header(CryptoApiHeader),
-    Refused(file_params::Refusal),
 }
 
 // The field of four bytes at an offset.
@@ -80,56 +75,57 @@ fn bits_of(size: u32) -> u32
 }
 
 // Reads a structure: its fields, or the first of questions 15 to 26 that is answered by a no.
-pub fn parse(structure: &[u8]) -> Parsed
+#[tactic(auto, using(laws::proofs::Tests::tests), unfolding(crate::specs::Parse::parsed, file_params::specs::Questions::asked, file_params::specs::Questions::crypto_api, laws::specs::Choice::pick))]
+pub fn parse(structure: &[u8]) -> Result<CryptoApiHeader, Refusal>
     ensures { result ≡ parsed structure.now }
 {
     let have = structure.len();
     if have < PREFIX_LEN {
-        return Parsed::Refused(file_params::Refusal::EncryptionInfoTruncated(have));
+        return Err(Refusal::EncryptionInfoTruncated(have));
     }
     let size = field(structure, 8);
     if !limits::size_fits(size) {
-        return Parsed::Refused(file_params::Refusal::EncryptionHeaderSizeOutOfRange(size));
+        return Err(Refusal::EncryptionHeaderSizeOutOfRange(size));
     }
     let verifier = PREFIX_LEN + (size as usize);
     if have < verifier {
-        return Parsed::Refused(file_params::Refusal::EncryptionHeaderSizeOutOfBounds(size, have));
+        return Err(Refusal::EncryptionHeaderSizeOutOfBounds(size, have));
     }
     let flags = field(structure, 12);
     if !clear(flags, FLAG_EXTERNAL) {
-        return Parsed::Refused(file_params::Refusal::FlagExternal(flags));
+        return Err(Refusal::FlagExternal(flags));
     }
     if !clear(flags, FLAG_AES) {
-        return Parsed::Refused(file_params::Refusal::FlagAes(flags));
+        return Err(Refusal::FlagAes(flags));
     }
     if clear(flags, FLAG_CRYPTO_API) {
-        return Parsed::Refused(file_params::Refusal::FlagCryptoApiClear(flags));
+        return Err(Refusal::FlagCryptoApiClear(flags));
     }
     let alg_id = field(structure, 20);
     if !zero_or(alg_id, ALG_ID_RC4) {
-        return Parsed::Refused(file_params::Refusal::UnsupportedAlgId(alg_id));
+        return Err(Refusal::UnsupportedAlgId(alg_id));
     }
     let alg_id_hash = field(structure, 24);
     if !zero_or(alg_id_hash, ALG_ID_HASH_SHA1) {
-        return Parsed::Refused(file_params::Refusal::UnsupportedAlgIdHash(alg_id_hash));
+        return Err(Refusal::UnsupportedAlgIdHash(alg_id_hash));
     }
     let key_size = field(structure, 28);
     if !limits::key_size_fits(key_size) {
-        return Parsed::Refused(file_params::Refusal::EncryptionHeaderKeySize(key_size));
+        return Err(Refusal::EncryptionHeaderKeySize(key_size));
     }
     if have < verifier + VERIFIER_LEN {
-        return Parsed::Refused(file_params::Refusal::EncryptionVerifierTruncated(have - verifier));
+        return Err(Refusal::EncryptionVerifierTruncated(have - verifier));
     }
     let salt_size = field(structure, verifier);
     if salt_size != SALT_LEN {
-        return Parsed::Refused(file_params::Refusal::VerifierSaltSize(salt_size));
+        return Err(Refusal::VerifierSaltSize(salt_size));
     }
     let hash_size = field(structure, verifier + 36);
     if hash_size != VERIFIER_HASH_LEN {
-        return Parsed::Refused(file_params::Refusal::VerifierHashSize(hash_size));
+        return Err(Refusal::VerifierHashSize(hash_size));
     }
     let key_bits = bits_of(key_size);
-    Parsed::Header(CryptoApiHeader {
+    Ok(CryptoApiHeader {
         key_bits,
         flags,
         salt: verifier + 4,
@@ -142,18 +138,14 @@ pub fn parse(structure: &[u8]) -> Parsed
 fn long_key(key_bits: u32) -> bool
     ensures { result ≡ within 48 128 key_bits }
 {
-    (48 <= key_bits) & (key_bits <= limits::RC4_KEY_BITS_MAX)
+    (48..=limits::RC4_KEY_BITS_MAX).contains(&key_bits)
 }
 
 // SHA-1 of H0 and the block's number.
 fn final_hash(h0: [u8; 20], block: u32) -> [u8; 20]
     ensures { result ≡ hfinal h0 block }
 {
-    let b = word::to_le_bytes(block);
-    let m = [
-        h0[0], h0[1], h0[2], h0[3], h0[4], h0[5], h0[6], h0[7], h0[8], h0[9], h0[10], h0[11],
-        h0[12], h0[13], h0[14], h0[15], h0[16], h0[17], h0[18], h0[19], b[0], b[1], b[2], b[3],
-    ];
+    let m: [u8; 24] = word::joined(&h0, &word::to_le_bytes(block));
     sha_1::digest(&m)
 }
 
@@ -163,11 +155,7 @@ fn head(hash: [u8; 20], n: usize) -> [u8; 16]
     ensures { result ≡ take n hash ++ replicate (16 - n) 0 }
 {
     let mut bytes = [0u8; 16];
-    let mut i: usize = 0;
-    while i < n {
-        bytes[i] = hash[i];
-        i += 1;
-    }
+    bytes[..n].copy_from_slice(&hash[..n]);
     bytes
 }
 

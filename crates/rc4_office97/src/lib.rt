@@ -6,36 +6,28 @@ ghost use Rattle.sensitive.specs.Derived.{derived};
 ghost use Rattle.rc4_office97.specs.Keys.{times, truncated, block_key};
 ghost use Rattle.rc4_office97.specs.Parse.{parsed};
 
+use file_params::Refusal;
+
 // The whole structure: version, salt, verifier, verifier hash.
 const HEADER_LEN: usize = 52;
 
-// The result of reading a structure: its fields are at fixed places, so there is no more to report.
-#[derive(Clone, Copy)]
-pub enum Parsed {
-    Header,
-    Refused(file_params::Refusal),
-}
-
-// Reads a structure: whether it is whole, which is question 14.
-pub fn parse(structure: &[u8]) -> Parsed
+// Reads a structure: whether it is whole, which is question 14. Its fields are at fixed places, so there is no more to
+// report.
+pub fn parse(structure: &[u8]) -> Result<(), Refusal>
     ensures { result ≡ parsed structure.now }
 {
     let have = structure.len();
     if have < HEADER_LEN {
-        return Parsed::Refused(file_params::Refusal::Rc4Office97HeaderTruncated(have));
+        return Err(Refusal::Rc4Office97HeaderTruncated(have));
     }
-    Parsed::Header
+    Ok(())
 }
 
 // The first five bytes of H0 and the salt.
 fn unit(h0: [u8; 16], salt: [u8; 16]) -> [u8; 21]
     ensures { result ≡ take 5 h0 ++ salt }
 {
-    [
-        h0[0], h0[1], h0[2], h0[3], h0[4], salt[0], salt[1], salt[2], salt[3], salt[4], salt[5],
-        salt[6], salt[7], salt[8], salt[9], salt[10], salt[11], salt[12], salt[13], salt[14],
-        salt[15],
-    ]
+    word::joined(&[h0[0], h0[1], h0[2], h0[3], h0[4]], &salt)
 }
 
 // The unit sixteen times over.
@@ -43,10 +35,8 @@ fn repeated(unit: [u8; 21]) -> [u8; 336]
     ensures { result ≡ times 16 unit }
 {
     let mut m = [0u8; 336];
-    let mut i: usize = 0;
-    while i < 336 {
+    for i in 0..336 {
         m[i] = unit[i % 21];
-        i += 1;
     }
     m
 }
@@ -64,18 +54,7 @@ pub fn truncated_h1(h0: [u8; 16], salt: [u8; 16]) -> [u8; 5]
 pub fn block_key(truncated_h1: [u8; 5], block: u32) -> sensitive::DerivedKey
     ensures { result ≡ derived (block_key truncated_h1 block) }
 {
-    let b = word::to_le_bytes(block);
-    let m = [
-        truncated_h1[0],
-        truncated_h1[1],
-        truncated_h1[2],
-        truncated_h1[3],
-        truncated_h1[4],
-        b[0],
-        b[1],
-        b[2],
-        b[3],
-    ];
+    let m: [u8; 9] = word::joined(&truncated_h1, &word::to_le_bytes(block));
     let bytes = md_5::digest(&m);
     sensitive::DerivedKey { bytes, len: 16 }
 }

@@ -5,231 +5,182 @@
 // nothing, and how many cases differ. oracle/README.md says how the sample is made.
 #![tactic(auto)]
 
-ghost use Rattle.std.specs.Prelude.{◌≡◌, length};
-
-use samples::{lent_byte, number, part};
+use samples::Reader;
 use std::io;
 use std::rt::Files;
 
-fn data_buffer() -> [u8; 262144]
-    ensures { 262144 ≡ length result }
-{
-    [0; 262144]
+// What is wanted of a case. Numbers are those of the C interface: 0 for what isn't refused, and else the refusal's.
+#[derive(Clone, Copy, Debug)]
+struct Want<'a> {
+    verdict: u32,
+    look_facts: &'a [u8],
+    // The key size that the standard names in place of the last of the look's facts, where it is not the Rust's.
+    key_size: Option<u8>,
+    // How many bytes at the end of the stream are padding.
+    padding: usize,
+    forecast: u32,
+    forecast_facts: &'a [u8],
+    answer: usize,
+    open_facts: &'a [u8],
+    // The plain stream, or no bytes where there is none.
+    plain: &'a [u8],
 }
 
-// What came of a case: its outcome, whether Look's key size is judged by the standard and not by the Rust, whether the stream
-// is padded, and whether all is as it must be.
-#[derive(Clone, Copy)]
-struct Ran {
-    answer: u32,
-    by_standard: bool,
-    padded: bool,
-    same: bool,
+// The next byte, or 255 where there is none.
+fn byte(data: &mut Reader) -> u8 {
+    match data.bytes(1) {
+        [byte, ..] => *byte,
+        [] => 255,
+    }
 }
 
-// The result of a forecast: whether it refuses nothing, and whether it is as it must be.
-#[derive(Clone, Copy)]
-struct Foretold {
-    told: bool,
-    same: bool,
-}
-
-// The first byte, or 255 where there is none.
-fn first_of(bytes: &[u8]) -> u8 {
-    if 0 < bytes.len() { bytes[0] } else { 255 }
+// Reads what is wanted: the verdict's number, five facts, the key size in place of the last of them or 0, how many bytes
+// are padding, the forecast's number, four facts, the answer's number, seven facts, and the plain stream where there is
+// one, as long as the stream.
+fn wanted(data: &[u8], stream_len: usize) -> Want {
+    let mut data = Reader::new(data);
+    let verdict = u32::from(byte(&mut data));
+    let look_facts = data.bytes(40);
+    let bits = byte(&mut data);
+    let padding = usize::from(byte(&mut data));
+    let forecast = u32::from(byte(&mut data));
+    let forecast_facts = data.bytes(32);
+    let answer = data.number();
+    let open_facts = data.bytes(56);
+    let plain = data.bytes(stream_len);
+    Want {
+        verdict,
+        look_facts,
+        key_size: (bits != 0).then_some(bits),
+        padding,
+        forecast,
+        forecast_facts,
+        answer,
+        open_facts,
+        plain,
+    }
 }
 
 // Whether the first of some facts are those wanted, numbers of eight bytes, and the others 0.
-fn facts_same(told: &[u64; 8], want: &[u8]) -> bool {
-    let mut same = true;
-    let mut i = 0;
-    while i < 8 {
-        same = same & (told[i] == number(want, 8 * i) as u64) & (number(want, 8 * i + 4) == 0);
-        i += 1;
-    }
-    same
-}
-
-// The key size in place of the Rust's, or 0 where the Rust's counts.
-fn instead(want: &[u8]) -> u8 {
-    first_of(part(want, 41, 1))
+fn facts_same(facts: &[u64; 8], want: &[u8]) -> bool {
+    let mut want = Reader::new(want);
+    facts.iter().all(|fact| *fact == want.wide_number())
 }
 
 // Whether a look is the one wanted: the Rust's or, where another key size is named, the Rust's with that one for none.
-fn look_same(verdict: u32, seen: &[u64; 8], want: &[u8]) -> bool {
-    let same = verdict == first_of(want) as u32;
-    let bits = instead(want);
-    if bits == 0 {
-        return same & facts_same(seen, part(want, 1, 40));
-    }
-    let mut rest = *seen;
-    rest[4] = 0;
-    same & facts_same(&rest, part(want, 1, 40)) & (seen[4] == bits as u64)
-}
-
-// Whether the first bytes of a buffer are zero.
-fn zeros(buffer: &[u8], n: usize) -> bool {
-    let mut i = 0;
-    while i < buffer.len() {
-        if (i < n) & (buffer[i] != 0) {
+fn look_same(stream: &[u8], want: Want) -> bool {
+    let mut facts = [0u64; 8];
+    let verdict = sheet::sheet_look(stream, &mut facts);
+    if let Some(bits) = want.key_size {
+        if facts[4] != u64::from(bits) {
             return false;
         }
-        i += 1;
+        facts[4] = 0;
     }
-    true
-}
-
-// Whether a buffer is as it was lent, from an offset on.
-fn as_lent(buffer: &[u8], from: usize) -> bool {
-    let mut i = 0;
-    while i < buffer.len() {
-        if (from <= i) & (buffer[i] != lent_byte(i)) {
-            return false;
-        }
-        i += 1;
-    }
-    true
-}
-
-// Whether the output is what it must be: the plain stream and then what was lent, or what was lent.
-fn output_same(output: &[u8], answer: u32, plain: &[u8]) -> bool {
-    if answer == 0 {
-        check::same(part(output, 0, plain.len()), plain) & as_lent(output, plain.len())
-    } else {
-        as_lent(output, 0)
-    }
+    verdict == want.verdict && facts_same(&facts, want.look_facts)
 }
 
 // Whether a stream ends in as many zeros as are said to be padding: three at most.
 fn ends_padded(stream: &[u8], padding: usize) -> bool {
-    if 3 < padding {
-        return false;
-    }
-    if stream.len() < padding {
-        return false;
-    }
-    zeros(part(stream, stream.len() - padding, padding), padding)
-}
-
-// Forecasts what opening a stream will take.
-fn foretell(stream: &[u8], want: &[u8]) -> Foretold {
-    let mut facts = [0u64; 8];
-    let answer = sheet::sheet_forecast(stream, &mut facts);
-    Foretold {
-        told: answer == 0,
-        same: (answer == first_of(part(want, 43, 1)) as u32)
-            & facts_same(&facts, part(want, 44, 32)),
+    let zeros = [0u8; 3];
+    match zeros.get(..padding) {
+        Some(zeros) => stream.ends_with(zeros),
+        None => false,
     }
 }
 
-// Runs a case with what is lent. What is wanted: the verdict's number, five facts, the key size in place of the last of them
-// or 0, how many bytes are padding, the forecast's number, four facts, the answer's number, seven facts, and the plain stream
-// where there is one.
-fn run_lent(
-    password: &[u8],
-    stream: &[u8],
-    want: &[u8],
-    scratch: &mut [u8],
-    output: &mut [u8],
-) -> Ran {
-    let mut seen = [0u64; 8];
-    let mut told = [0u64; 8];
-    let verdict = sheet::sheet_look(stream, &mut seen);
-    let answer = sheet::sheet_open(stream, password, scratch, output, &mut told);
-    let padding = first_of(part(want, 42, 1)) as usize;
-    let looked = look_same(verdict, &seen, want);
-    let opened = (answer as usize == number(want, 76)) & facts_same(&told, part(want, 80, 56));
-    let wiped = zeros(scratch, 64) & as_lent(scratch, 64);
-    let written = output_same(output, answer, part(want, 136, stream.len()));
-    Ran {
-        answer,
-        by_standard: instead(want) != 0,
-        padded: padding != 0,
-        same: looked & opened & wiped & written & ends_padded(stream, padding),
+// How many cases had each outcome, 0 for a stream that opens and else the refusal's number; in how many the key size is
+// judged by the standard and not by the Rust; in how many the stream is padded; how many forecasts refuse nothing; and how
+// many cases differ.
+#[derive(Clone, Copy, Debug, PartialEq, Eq)]
+struct Tally {
+    outcomes: [u64; 28],
+    by_standard: u64,
+    padded: u64,
+    foretold: u64,
+    differ: u64,
+}
+
+impl Tally {
+    // Looks at a case's stream, and opens and forecasts it, and counts what comes of it.
+    fn run(&mut self, password: &[u8], stream: &[u8], want: Want) {
+        let opened = self.open(password, stream, want);
+        let foretold = self.forecast(stream, want);
+        let same = opened
+            && foretold
+            && look_same(stream, want)
+            && ends_padded(stream, want.padding);
+        self.by_standard = self
+            .by_standard
+            .wrapping_add(u64::from(want.key_size.is_some()));
+        self.padded = self.padded.wrapping_add(u64::from(want.padding != 0));
+        self.differ = self.differ.wrapping_add(u64::from(!same));
+    }
+
+    // Opens a stream and counts its outcome. Tells whether the answer, the scratch and the output are as wanted: the output
+    // holds the plain stream where it opens, and else nothing.
+    fn open(&mut self, password: &[u8], stream: &[u8], want: Want) -> bool {
+        let mut facts = [0u64; 8];
+        let mut scratch = [0u8; 70];
+        let mut output = [0u8; 16384];
+        samples::lend(&mut scratch);
+        samples::lend(&mut output);
+        let answer = sheet::sheet_open(stream, password, &mut scratch, &mut output, &mut facts);
+        let answer = answer as usize;
+        if let Some(count) = self.outcomes.get_mut(answer) {
+            *count = count.wrapping_add(1);
+        }
+        let plain: &[u8] = if answer == 0 { want.plain } else { &[] };
+        answer == want.answer
+            && facts_same(&facts, want.open_facts)
+            && samples::holds(&scratch, &[0; 64])
+            && samples::holds(&output, plain)
+    }
+
+    // Forecasts what opening a stream will take and counts whether it is told. Tells whether it is as wanted.
+    fn forecast(&mut self, stream: &[u8], want: Want) -> bool {
+        let mut facts = [0u64; 8];
+        let answer = sheet::sheet_forecast(stream, &mut facts);
+        self.foretold = self.foretold.wrapping_add(u64::from(answer == 0));
+        answer == want.forecast && facts_same(&facts, want.forecast_facts)
     }
 }
 
-// Runs a case.
-fn run(password: &[u8], stream: &[u8], want: &[u8]) -> Ran {
-    let mut scratch = [0u8; 70];
-    let mut output = [0u8; 16384];
-    samples::lend(&mut scratch);
-    samples::lend(&mut output);
-    run_lent(password, stream, want, &mut scratch, &mut output)
-}
-
-// How many cases had each outcome, 0 for a stream that opens and else the refusal's number; after them, how many differ, in
-// how many Look's key size is judged by the standard, how many forecasts refuse nothing, and in how many the stream is
-// padded.
-const KINDS: usize = 32;
-
-fn counted(counts: &mut [u64; KINDS], k: usize) {
-    if k < 32 {
-        counts[k] = std::num::wrapping_add_u64(counts[k], 1);
+// Runs the cases of a file: password, stream and what is wanted, each after its length.
+fn run_file<R: Files + Eprint>(rt: &R, path: &[u8], tally: &mut Tally) {
+    let mut data = [0u8; 262144];
+    let mut cases = Reader::new(samples::read(rt, path, &mut data));
+    while !cases.is_empty() {
+        let password = cases.sized();
+        let stream = cases.sized();
+        let want = wanted(cases.sized(), stream.len());
+        tally.run(password, stream, want);
     }
-}
-
-// Counts what came of a case.
-fn count_case(counts: &mut [u64; KINDS], ran: Ran, foretold: Foretold) {
-    counted(counts, ran.answer as usize);
-    if !(ran.same & foretold.same) {
-        counted(counts, 28);
-    }
-    if ran.by_standard {
-        counted(counts, 29);
-    }
-    if foretold.told {
-        counted(counts, 30);
-    }
-    if ran.padded {
-        counted(counts, 31);
-    }
-}
-
-// Runs the cases of a part of the data: password, stream and what is expected, each after its length.
-fn run_all(data: &[u8], counts: &mut [u64; KINDS]) {
-    let mut at: usize = 0;
-    while at < data.len() {
-        let password = number(data, at);
-        let stream = number(data, at + 4 + password);
-        let start = at + 8 + password;
-        let want = number(data, start + stream);
-        let behind = start + stream + 4;
-        let its_stream = part(data, start, stream);
-        let its_want = part(data, behind, want);
-        let ran = run(part(data, at + 4, password), its_stream, its_want);
-        let foretold = foretell(its_stream, its_want);
-        count_case(counts, ran, foretold);
-        at = behind + want;
-    }
-}
-
-// Runs the cases of a file.
-fn run_file<R: Files + Eprint>(rt: &R, path: &[u8], counts: &mut [u64; KINDS]) {
-    let mut data = data_buffer();
-    let n = samples::read(rt, path, &mut data);
-    run_all(&data[0..n], counts);
 }
 
 fn main(rt: HostRuntime) -> io::Result<()> {
-    let mut counts = [0u64; KINDS];
-    run_file(&rt, b"cases_1", &mut counts);
-    run_file(&rt, b"cases_2", &mut counts);
-    run_file(&rt, b"cases_3", &mut counts);
-    run_file(&rt, b"cases_4", &mut counts);
-    let mut k: usize = 0;
-    while k < 28 {
-        rt.print(k)?;
-        rt.write_all(b"\t")?;
-        rt.println(counts[k])?;
-        k += 1;
+    let mut tally = Tally {
+        outcomes: [0; 28],
+        by_standard: 0,
+        padded: 0,
+        foretold: 0,
+        differ: 0,
+    };
+    for path in [b"cases_1", b"cases_2", b"cases_3", b"cases_4"] {
+        run_file(&rt, path, &mut tally);
     }
-    rt.write_all(b"key size 0 as 40\t")?;
-    rt.print(counts[29])?;
-    rt.write_all(b"\npadded\t")?;
-    rt.print(counts[31])?;
-    rt.write_all(b"\nforecasts that tell\t")?;
-    rt.println(counts[30])?;
-    rt.print(counts[28])?;
-    rt.write_all(b" differ\n")
+    let Tally {
+        outcomes,
+        by_standard,
+        padded,
+        foretold,
+        differ,
+    } = tally;
+    for (number, count) in outcomes.iter().enumerate() {
+        println!(rt; "{number}\t{count}")?;
+    }
+    println!(rt; "key size 0 as 40\t{by_standard}")?;
+    println!(rt; "padded\t{padded}")?;
+    println!(rt; "forecasts that tell\t{foretold}")?;
+    println!(rt; "{differ} differ")
 }

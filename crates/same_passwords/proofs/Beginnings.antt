@@ -1,10 +1,10 @@
 -- The password check of a FILEPASS body is that of any longer one that begins with it, where questions 10 to 26 let the body through: every field that the check
 -- reads lies within it.
 -- Assumes nothing.
+use Rattle.std.specs.Prelude.{Option, None, Some}
 use mathlib.Core.Path.{◌≡◌, refl, sym, ap, ◌∙◌}
 use mathlib.Core.Bool.{Bool, true, false}
 use mathlib.Core.List.{List, []}
-use mathlib.Core.Option.{Option, none, some}
 use Prim.Native.Nat.{ℕ, ◌+◌, ◌≤◌, ◌<◌}
 use native.Mathlib.Omega.{arith}
 use borrow.Author.Tests.{eq-eqb, ne_eqb, leb-true}
@@ -68,7 +68,7 @@ same_verified s verifier g h e =
     (same_under (block_key s 0) 16 (digest_len s.kind) g h e)
 
 -- two structures of type 1, the first of which questions 12 to 26 let through
-module _ (b c : List ℕ) (begins : Begins b c) (e : asked (rc4 b) ≡ none) where
+module _ (b c : List ℕ) (begins : Begins b c) (e : asked (rc4 b) ≡ None) where
   same_family : is_office97 b ≡ is_office97 c
   same_family =
       let l = version_there b e in
@@ -130,7 +130,7 @@ module _ (b c : List ℕ) (begins : Begins b c) (e : asked (rc4 b) ≡ none) whe
       go false i = matches_api i password
 
 -- two bodies, the first of which questions 10 to 26 let through
-module _ (b c : List ℕ) (begins : Begins b c) (e : asked (lock b) ≡ none) (password : List ℕ) where
+module _ (b c : List ℕ) (begins : Begins b c) (e : asked (lock b) ≡ None) (password : List ℕ) where
   same_type : type_of b ≡ type_of c
   same_type = let l = two_there b (sym e) in same_16 b c begins 0 (omega arith)
 
@@ -144,8 +144,8 @@ module _ (b c : List ℕ) (begins : Begins b c) (e : asked (lock b) ≡ none) (p
       ∙ sym (taken (xor_matches c (ansi password)) (rc4_matches (structure_of c) password) (eq-eqb (type_of c) 0 (sym same_type ∙ z)))
     where
       by_password : (p : Option (List ℕ)) → xor_matches b p ≡ xor_matches c p
-      by_password none = refl
-      by_password (some p) = let l = six_there b (sym e) z in rw (same_16 b c begins 2 (omega arith), same_16 b c begins 4 (omega arith))
+      by_password None = refl
+      by_password (Some p) = let l = six_there b (sym e) z in rw (same_16 b c begins 2 (omega arith), same_16 b c begins 4 (omega arith))
 
   check_rc4 : (type_of b ≡ 0 → ⊥) → passes b password ≡ passes c password
   unfolding passes

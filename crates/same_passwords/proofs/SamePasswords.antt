@@ -1,11 +1,11 @@
 -- Two books with the same lock take the same passwords. A FILEPASS body that ends within the bytes that Same lock reads is compared whole; so the other's body begins
 -- with it, and the check of the one is that of the other.
 -- Assumes nothing.
+use Rattle.std.specs.Prelude.{Option, None, Some, Ok, Err, Result}
 use mathlib.Core.Path.{◌≡◌, refl, sym, ap, ◌∙◌}
 use mathlib.Core.Bool.{Bool, true, false}
 use mathlib.Core.List.{List, [], ◌∷◌, ◌++◌}
 use mathlib.Core.Logic.{inl, inr}
-use mathlib.Core.Option.{Option, none, some}
 use Prim.Native.Nat.{ℕ, ◌+◌, ◌-◌, ◌≤◌, min}
 use native.Mathlib.Omega.{arith}
 use borrow.Author.Tests.{leb-true}
@@ -15,7 +15,8 @@ use lib.Seq.{get_or-take, take_all}
 use Rattle.laws.specs.Choice.{pick}
 use Rattle.laws.proofs.Choice.{either}
 use Rattle.binary_office.specs.declared.Finding.TheVariants.{Filepass, Unreadable}
-use Rattle.binary_office.specs.Walk.{BiffRecord, walk}
+use Rattle.binary_office.specs.declared.BiffRecord.{BiffRecord}
+use Rattle.binary_office.specs.Walk.{walk}
 use Rattle.binary_office.specs.SameLock.{capped_body, same_lock}
 use Rattle.binary_office.proofs.Locks.{part_cut}
 use Rattle.binary_office.proofs.Bodies.{impossible}
@@ -27,8 +28,6 @@ use Rattle.file_params.specs.Questions.{Question, scratch_need, ask, asked, lent
 use Rattle.file_params.proofs.Laws.{asked_on, asked_stop, none_of_both}
 use Rattle.file_params.proofs.Tables.{given_passes, stream_number}
 use Rattle.excel97.specs.declared.Report.{Report}
-use Rattle.excel97.specs.declared.Answer.{Answer}
-use Rattle.excel97.specs.declared.Answer.TheVariants.{Opened, Refused}
 use Rattle.excel97.specs.Open.{passes, report, outcome_by, outcome_with, Opens}
 use Rattle.key_sizes.proofs.Scanned.{seen_there, seen_not, looked}
 use Rattle.key_sizes.proofs.Passed.{bof, in_order_lem, first_found}
@@ -36,7 +35,7 @@ use Rattle.same_passwords.specs.SamePasswords.{EndsWithin, OfStreams, Reaches27,
 use Rattle.same_passwords.proofs.Beginnings.{Begins, same_check}
 
 -- what Same lock reads of the FILEPASS body of a stream that questions 6 to 9 let through
-module _ (s : List ℕ) (walked : asked (book s) ≡ none) (r : BiffRecord) (f : filepass (walk s).records ≡ some r) where
+module _ (s : List ℕ) (walked : asked (book s) ≡ None) (r : BiffRecord) (f : filepass (walk s).records ≡ Some r) where
   -- how many bytes of it are within the first 1,048,576
   abbrev most : ℕ
   most = 1048576 - (r.at + 4)
@@ -77,7 +76,7 @@ module _ (s : List ℕ) (walked : asked (book s) ≡ none) (r : BiffRecord) (f :
       ap (λ (l : List ℕ). get_or l i 0) q ∙ get_or-take most (filepass_body s) i 0 (omega arith)
 
 -- the first body ends there
-module _ (s t : List ℕ) (same : same_lock s t ≡ true) (e : asked (of_stream s) ≡ none) (g : asked (of_stream t) ≡ none) (w : EndsWithin s) (password : List ℕ) where
+module _ (s t : List ℕ) (same : same_lock s t ≡ true) (e : asked (of_stream s) ≡ None) (g : asked (of_stream t) ≡ None) (w : EndsWithin s) (password : List ℕ) where
   first_whole : passes (filepass_body s) password ≡ passes (filepass_body t) password
   unfolding of_stream
   first_whole =
@@ -94,7 +93,7 @@ same_checks s t same (inl w) e g password = first_whole s t same e g w password
 same_checks s t same (inr w) e g password = sym (first_whole t s (same_lock_sym t s ∙ same) g e w password)
 
 -- a run that reaches question 27: questions 6 to 26 let the stream through, and the check decides
-module _ (s password scratch output : List ℕ) (a : Answer) (scratch' output' : List ℕ)
+module _ (s password scratch output : List ℕ) (a : (Result Report Refusal)) (scratch' output' : List ℕ)
     (run : Opens s password scratch output a scratch' output') (reaches : Reaches27 a) where
   abbrev lending : List Question
   lending = lent scratch_need password (length s) (length scratch) (length output)
@@ -102,7 +101,7 @@ module _ (s password scratch output : List ℕ) (a : Answer) (scratch' output' :
   abbrev last : List Question
   last = ask (passes (filepass_body s) password) WrongPassword ∷ []
 
-  abbrev answer_by : Option Refusal → Answer
+  abbrev answer_by : Option Refusal → (Result Report Refusal)
   answer_by d = (outcome_by scratch_need s password scratch output d).answer
 
   all_asked : a ≡ answer_by (asked (lending ++ (of_stream s ++ last)))
@@ -110,46 +109,46 @@ module _ (s password scratch output : List ℕ) (a : Answer) (scratch' output' :
   all_asked = run.answered
 
   -- no other question refuses
-  not_lent : (r : Refusal) → asked lending ≡ some r → ⊥
+  not_lent : (r : Refusal) → asked lending ≡ Some r → ⊥
   unfolding lent
   not_lent r e =
       let n = leb-true (number r) 5 (given_passes (λ (q : Refusal). leb (number q) 5) lending r refl e) in
       let m = reaches r (all_asked ∙ ap answer_by (sym (asked_stop lending (of_stream s ++ last) r (sym e)))) in
       omega arith
 
-  lent_passed : asked lending ≡ none
+  lent_passed : asked lending ≡ None
   lent_passed = go (asked lending) refl
     where
-      go : (o : Option Refusal) → asked lending ≡ o → asked lending ≡ none
-      go none e = e
-      go (some r) e = absurd (not_lent r e)
+      go : (o : Option Refusal) → asked lending ≡ o → asked lending ≡ None
+      go None e = e
+      go (Some r) e = absurd (not_lent r e)
 
   later_asked : a ≡ answer_by (asked (of_stream s ++ last))
   later_asked = all_asked ∙ ap answer_by (asked_on lending (of_stream s ++ last) (sym lent_passed))
 
-  not_stream : (r : Refusal) → asked (of_stream s) ≡ some r → ⊥
+  not_stream : (r : Refusal) → asked (of_stream s) ≡ Some r → ⊥
   not_stream r e =
       let n = (stream_number s r e).1 in
       let m = reaches r (later_asked ∙ ap answer_by (sym (asked_stop (of_stream s) last r (sym e)))) in
       omega arith
 
-  pub stream_passed : asked (of_stream s) ≡ none
+  pub stream_passed : asked (of_stream s) ≡ None
   stream_passed = go (asked (of_stream s)) refl
     where
-      go : (o : Option Refusal) → asked (of_stream s) ≡ o → asked (of_stream s) ≡ none
-      go none e = e
-      go (some r) e = absurd (not_stream r e)
+      go : (o : Option Refusal) → asked (of_stream s) ≡ o → asked (of_stream s) ≡ None
+      go None e = e
+      go (Some r) e = absurd (not_stream r e)
 
-  pub by_check : a ≡ pick (passes (filepass_body s) password) (Opened (report s)) (Refused WrongPassword)
+  pub by_check : a ≡ pick (passes (filepass_body s) password) (Ok (report s)) (Err WrongPassword)
   unfolding asked pick
   by_check = later_asked ∙ ap answer_by (asked_on (of_stream s) last (sym stream_passed)) ∙ checked (passes (filepass_body s) password)
     where
-      checked : (t : Bool) → answer_by (asked (ask t WrongPassword ∷ [])) ≡ pick t (Opened (report s)) (Refused WrongPassword)
+      checked : (t : Bool) → answer_by (asked (ask t WrongPassword ∷ [])) ≡ pick t (Ok (report s)) (Err WrongPassword)
       checked true = refl
       checked false = refl
 
 -- two answers that one check decides
-same_answers : (t : Bool) (x y : Report) (a b : Answer) → a ≡ pick t (Opened x) (Refused WrongPassword) → b ≡ pick t (Opened y) (Refused WrongPassword) → SameAnswers a b
+same_answers : (t : Bool) (x y : Report) (a b : (Result Report Refusal)) → a ≡ pick t (Ok x) (Err WrongPassword) → b ≡ pick t (Ok y) (Err WrongPassword) → SameAnswers a b
 unfolding pick
 same_answers true x y a b e g =
     record { opened_to = λ told h. (y, g); opened_from = λ told h. (x, e); refused_to = λ r h. cc; refused_from = λ r h. cc }
@@ -161,7 +160,7 @@ same_answers false x y a b e g =
       refused_from = λ r h. e ∙ sym g ∙ h;
     }
   where
-    not_opened : {X : Type 0} (told : Report) → Refused WrongPassword ≡ Opened told → X
+    not_opened : {X : Type 0} (told : Report) → Err WrongPassword ≡ Ok told → X
     not_opened told z = impossible (cc)
 
 pub same_passwords : SamePasswords
@@ -173,5 +172,5 @@ same_passwords = record { streams = same_checks; runs = same_runs }
         let g = stream_passed t p x q b x' q' other-run other-reaches in
         let check = same_checks s t same within e g p in
         same_answers (passes (filepass_body t) p) (report s) (report t) a b
-        (by_check s p w o a w' o' run reaches ∙ ap (λ (k : Bool). pick k (Opened (report s)) (Refused WrongPassword)) check)
+        (by_check s p w o a w' o' run reaches ∙ ap (λ (k : Bool). pick k (Ok (report s)) (Err WrongPassword)) check)
         (by_check t p x q b x' q' other-run other-reaches)

@@ -3,45 +3,43 @@
 -- Of others it can be false: the locks of two CryptoAPI books are the same where their bodies are cut there behind the same salt and before the verifier, whatever
 -- the verifiers are. `host/tests/same_lock.rs` has such a pair.
 -- Assumes nothing.
-use Rattle.std.specs.Prelude.{◌≡◌, ℕ, ◌+◌, ◌≤◌, true, List, ◌⊎◌}
-use Rattle.std.proofs.Math.Option.{none, some}
-use Rattle.binary_office.specs.Walk.{BiffRecord, walk}
+use Rattle.std.specs.Prelude.{◌≡◌, ℕ, ◌+◌, ◌≤◌, true, List, ◌⊎◌, None, Some, Ok, Err, Result}
+use Rattle.binary_office.specs.declared.BiffRecord.{BiffRecord}
+use Rattle.binary_office.specs.Walk.{walk}
 use Rattle.binary_office.specs.SameLock.{same_lock}
 use Rattle.file_params.specs.declared.Refusal.{Refusal}
 use Rattle.file_params.specs.Refusal.{number}
 use Rattle.file_params.specs.Questions.{asked, of_stream, filepass, filepass_body}
 use Rattle.excel97.specs.declared.Report.{Report}
-use Rattle.excel97.specs.declared.Answer.{Answer}
-use Rattle.excel97.specs.declared.Answer.TheVariants.{Opened, Refused}
 use Rattle.excel97.specs.Open.{passes, Opens}
 
 -- the body of the first FILEPASS ends within the first 1,048,576 bytes
 pub record EndsWithin (stream : List ℕ) : Type 0 where
   pub first : BiffRecord
-  pub found : filepass (walk stream).records ≡ some first
+  pub found : filepass (walk stream).records ≡ Some first
   pub ends : first.at + 4 + first.len ≤ 1048576
 
 -- of two streams that questions 6 to 26 let through
 abbrev pub OfStreams : Type 0
 OfStreams =
-    (s t : List ℕ) → same_lock s t ≡ true → EndsWithin s ⊎ EndsWithin t → asked (of_stream s) ≡ none → asked (of_stream t) ≡ none
+    (s t : List ℕ) → same_lock s t ≡ true → EndsWithin s ⊎ EndsWithin t → asked (of_stream s) ≡ None → asked (of_stream t) ≡ None
     → (password : List ℕ) → passes (filepass_body s) password ≡ passes (filepass_body t) password
 
 -- a run reaches question 27 where no other refuses: it opens the stream, or is refused by 27
-abbrev pub Reaches27 : Answer → Type 0
-Reaches27 answer = (r : Refusal) → answer ≡ Refused r → number r ≡ 27
+abbrev pub Reaches27 : (Result Report Refusal) → Type 0
+Reaches27 answer = (r : Refusal) → answer ≡ Err r → number r ≡ 27
 
 -- both open, or both are refused
-pub record SameAnswers (a b : Answer) : Type 0 where
-  pub opened_to : (told : Report) → a ≡ Opened told → (other : Report) × (b ≡ Opened other)
-  pub opened_from : (told : Report) → b ≡ Opened told → (other : Report) × (a ≡ Opened other)
-  pub refused_to : (r : Refusal) → a ≡ Refused r → b ≡ Refused r
-  pub refused_from : (r : Refusal) → b ≡ Refused r → a ≡ Refused r
+pub record SameAnswers (a b : (Result Report Refusal)) : Type 0 where
+  pub opened_to : (told : Report) → a ≡ Ok told → (other : Report) × (b ≡ Ok other)
+  pub opened_from : (told : Report) → b ≡ Ok told → (other : Report) × (a ≡ Ok other)
+  pub refused_to : (r : Refusal) → a ≡ Err r → b ≡ Err r
+  pub refused_from : (r : Refusal) → b ≡ Err r → a ≡ Err r
 
 -- of any runs of `open` with one password that reach question 27, whatever else is lent
 abbrev pub OfAnyRuns : Type 0
 OfAnyRuns =
-    (s t password : List ℕ) (scratch output other_scratch other_output : List ℕ) (a b : Answer) (scratch' output' other_scratch' other_output' : List ℕ)
+    (s t password : List ℕ) (scratch output other_scratch other_output : List ℕ) (a b : (Result Report Refusal)) (scratch' output' other_scratch' other_output' : List ℕ)
     → same_lock s t ≡ true → EndsWithin s ⊎ EndsWithin t
     → Opens s password scratch output a scratch' output' → Opens t password other_scratch other_output b other_scratch' other_output'
     → Reaches27 a → Reaches27 b

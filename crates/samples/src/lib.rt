@@ -1,46 +1,120 @@
-// What the test programs read their data with: a file into a lent buffer, a part of the data, a number.
-// It carries nothing of the source.
+// What the test programs read their data with: a file into a lent buffer, a part of the data, a number, and the parts
+// and numbers that follow one another. It carries nothing of the source.
 #![tactic(auto)]
 
-ghost use Rattle.std.specs.Prelude.{◌≡◌, ◌<◌, ◌≤◌, ◌^◌, length};
+ghost use Rattle.std.specs.Prelude.{◌≡◌, ◌+◌, ◌-◌, ◌*◌, ◌<◌, ◌≤◌, ◌↔◌, ◌^◌, [], ◌++◌, length, drop, IfSome, IfOk, IsTrue};
 ghost use Rattle.laws.specs.Offsets.{tabulate};
-ghost use Rattle.samples.specs.Sample.{part_at, number_at, lent_at, Within};
+ghost use Rattle.samples.specs.Sample.{part_at, number_at, lent_at};
 
 use std::io::Read;
+use std::marker::Model;
 use std::rt::Files;
 use std::{fs, io};
-
-// What came of reading a file: how many bytes, or that it can't be read.
-#[derive(Clone, Copy)]
-pub enum Loaded {
-    Bytes(usize),
-    Failed,
-}
 
 // A part of the data, or no bytes where it does not lie within.
 pub fn part(d: &[u8], at: usize, len: usize) -> &[u8]
     ensures { result.now ≡ part_at d.now at len }
 {
-    if d.len() < at {
-        return &d[0..0];
-    }
-    if d.len() - at < len {
-        return &d[0..0];
-    }
-    &d[at..at + len]
+    let Some(rest) = d.get(at..) else { return &[] };
+    let Some(part) = rest.get(..len) else {
+        return &[]
+    };
+    part
 }
 
 // The number of four bytes at an offset, or 0 where it does not lie within.
 pub fn number(d: &[u8], at: usize) -> usize
-    ensures { (result ≡ number_at d.now at) × (result < 2 ^ 32) }
+    ensures value { result ≡ number_at d.now at }
+    ensures fits { result < 2 ^ 32 }
 {
-    if d.len() < 4 {
-        return 0;
+    let Some(rest) = d.get(at..) else { return 0 };
+    let Some(bytes) = rest.first_chunk() else {
+        return 0
+    };
+    u32::from_le_bytes(*bytes) as usize
+}
+
+// The data of a program, read from its front: each read moves on by the bytes that it takes, or to the end where there
+// are fewer. Clauses see what is left. A program whose cases follow one another in its data goes over them by
+//
+//     let mut cases = Reader::new(data);
+//     while !cases.is_empty() {
+//         let text = cases.sized();
+//         ..
+//     }
+//
+// with `length l.cases` as the loop's measure.
+#[derive(Drop)]
+pub struct Reader<'a> {
+    rest: &'a [u8],
+}
+
+impl<'a> Model for Reader<'a> {
+    ghost use Rattle.std.specs.Prelude.{ℕ, List};
+
+    ghost Value = { List ℕ };
+
+    ghost view = { λ r. r.rest.now };
+}
+
+impl<'a> Reader<'a> {
+    // All of the data.
+    pub fn new(all: &'a [u8]) -> Self
+        ensures { result ≡ all.now }
+    {
+        Reader { rest: all }
     }
-    if d.len() - 4 < at {
-        return 0;
+
+    // Whether nothing is left.
+    pub fn is_empty(&self) -> bool
+        ensures { IsTrue result ↔ (self.now ≡ []) }
+    {
+        self.rest.is_empty()
     }
-    word::from_le_bytes(d[at], d[at + 1], d[at + 2], d[at + 3]) as usize
+
+    // The number of four bytes that is next, or 0 where there are fewer.
+    pub fn number(&mut self) -> usize
+        ensures value { result ≡ number_at self.old 0 }
+        ensures fits { result < 2 ^ 32 }
+        ensures rest { self.new ≡ drop 4 self.old }
+        ensures left { length self.new ≡ length self.old - 4 }
+    {
+        let rest = self.rest;
+        self.rest = rest.get(4..).unwrap_or(&[]);
+        number(rest, 0)
+    }
+
+    // The number of eight bytes that is next, by its halves of four, the lower first.
+    pub fn wide_number(&mut self) -> u64
+        ensures value { result ≡ number_at self.old 0 + 2 ^ 32 * number_at (drop 4 self.old) 0 }
+        ensures rest { self.new ≡ drop 8 self.old }
+        ensures left { length self.new ≡ length self.old - 8 }
+    {
+        let low = self.number() as u64;
+        let high = self.number() as u64;
+        low + 4294967296 * high
+    }
+
+    // The len bytes that are next, or no bytes where there are fewer.
+    pub fn bytes(&mut self, len: usize) -> &'a [u8]
+        ensures value { result.now ≡ part_at self.old 0 len }
+        ensures rest { self.new ≡ drop len self.old }
+        ensures left { length self.new ≡ length self.old - len }
+    {
+        let rest = self.rest;
+        self.rest = rest.get(len..).unwrap_or(&[]);
+        part(rest, 0, len)
+    }
+
+    // The bytes that are next after their length, or no bytes where there are fewer.
+    pub fn sized(&mut self) -> &'a [u8]
+        ensures value { result.now ≡ part_at (drop 4 self.old) 0 (number_at self.old 0) }
+        ensures rest { self.new ≡ drop (number_at self.old 0) (drop 4 self.old) }
+        ensures left { length self.new ≡ length self.old - 4 - number_at self.old 0 }
+    {
+        let len = self.number();
+        self.bytes(len)
+    }
 }
 
 // The byte at an offset of a buffer as it is lent.
@@ -54,57 +128,71 @@ pub fn lent_byte(i: usize) -> u8
 pub fn lend(buffer: &mut [u8])
     ensures { buffer.new ≡ tabulate lent_at (length buffer.old) }
 {
-    let mut i = 0;
-    while i < buffer.len() {
-        buffer[i] = lent_byte(i);
-        i += 1;
+    for (i, byte) in buffer.iter_mut().enumerate() {
+        *byte = lent_byte(i);
     }
 }
 
-// Says on standard error why a file can't be read.
-fn failed(rt: &impl Eprint, path: &str, error: io::Error) -> Loaded
-    ensures { result ≡ Loaded.Failed }
+// Whether a lent buffer holds some bytes at its front, and behind them is as it was lent.
+pub fn holds(buffer: &[u8], front: &[u8]) -> bool
+    ensures { IsTrue result ↔ (buffer.now ≡ front.now ++ drop (length front.now) (tabulate lent_at (length buffer.now))) }
 {
-    let _ = eprintln!(rt; "{path}: {error}");
-    Loaded::Failed
-}
-
-// Reads what follows in an open file until the buffer is full or the file ends. Where it can't be read, says so on standard
-// error, by its path.
-fn fill(rt: &impl Eprint, path: &str, file: &mut impl Read, buffer: &mut [u8]) -> Loaded
-    ensures { Within result (length buffer.old) }
-{
-    let mut done: usize = 0;
-    while done < buffer.len() {
-        match file.read(&mut buffer[done..]) {
-            Ok(0) => return Loaded::Bytes(done),
-            Ok(more) => done += more,
-            Err(error) => return failed(rt, path, error),
+    let Some(rest) = buffer.strip_prefix(front) else {
+        return false;
+    };
+    for (i, byte) in rest.iter().enumerate() {
+        if *byte != lent_byte(front.len() + i) {
+            return false;
         }
     }
-    Loaded::Bytes(done)
+    true
 }
 
-// Reads a file into a buffer, as far as there is room. Where it can't be read, says so on standard error. A path is UTF-8.
-pub fn load<R: Files + Eprint>(rt: &R, path: &[u8], buffer: &mut [u8]) -> Loaded
-    ensures { Within result (length buffer.old) }
+// Reads what follows in an open file until the buffer is full or the file ends.
+fn fill(file: &mut impl Read, buffer: &mut [u8]) -> io::Result<usize>
+    ensures { IfOk result (λ n. n ≤ length buffer.old) }
+{
+    // Kept by a count: `read_exact` fails on a file that ends early, and `read_to_end` needs a heap.
+    let mut done: usize = 0;
+    while done < buffer.len() {
+        let more = file.read(&mut buffer[done..])?;
+        if more == 0 {
+            break;
+        }
+        done += more;
+    }
+    Ok(done)
+}
+
+// Reads a file into a buffer, as far as there is room.
+fn load_from<R: Files>(rt: &R, path: &str, buffer: &mut [u8]) -> io::Result<usize>
+    ensures { IfOk result (λ n. n ≤ length buffer.old) }
+{
+    let mut file = fs::open(rt, path)?;
+    fill(&mut file, buffer)
+}
+
+// Reads a file into a buffer, as far as there is room, and returns what it read. Where it can't be read, says so on
+// standard error. A path is UTF-8.
+pub fn load<'a, R: Files + Eprint>(rt: &R, path: &[u8], buffer: &'a mut [u8]) -> Option<&'a [u8]>
+    ensures { IfSome result (λ read. length read.now ≤ length buffer.old) }
 {
     let Ok(path) = str::from_utf8(path) else {
         let _ = eprintln!(rt; "a path is not UTF-8");
-        return Loaded::Failed;
+        return None;
     };
-    match fs::open(rt, path) {
-        Ok(mut file) => fill(rt, path, &mut file, buffer),
-        Err(error) => failed(rt, path, error),
+    match load_from(rt, path, buffer) {
+        Ok(n) => Some(&buffer[..n]),
+        Err(error) => {
+            let _ = eprintln!(rt; "{path}: {error}");
+            None
+        }
     }
 }
 
-// Reads a file into a buffer, as far as there is room, and returns how many bytes: none where it can't be read.
-pub fn read<R: Files + Eprint>(rt: &R, path: &[u8], buffer: &mut [u8]) -> usize
-    ensures { result ≤ length buffer.old }
+// Reads a file into a buffer, as far as there is room, and returns what it read: no bytes where it can't be read.
+pub fn read<'a, R: Files + Eprint>(rt: &R, path: &[u8], buffer: &'a mut [u8]) -> &'a [u8]
+    ensures { length result.now ≤ length buffer.old }
 {
-    match load(rt, path, buffer) {
-        Loaded::Bytes(n) => n,
-        Loaded::Failed => 0,
-    }
+    load(rt, path, buffer).unwrap_or(&[])
 }

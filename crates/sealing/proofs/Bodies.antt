@@ -1,9 +1,9 @@
 -- The body of a FILEPASS that sealing writes, whatever the choice, as Open reads it: its length, its questions, the check, the bytes and the report.
 -- Assumes nothing.
+use Rattle.std.specs.Prelude.{Option, None, Some, is_some}
 use mathlib.Core.Path.{◌≡◌, refl, sym, ap, ◌∙◌}
 use mathlib.Core.Bool.{Bool, true, false, ◌&&◌}
 use mathlib.Core.List.{List, [], ◌∷◌}
-use mathlib.Core.Option.{Option, none, some}
 use Prim.Native.Nat.{ℕ, zero, suc, ◌+◌, ◌%◌, ◌≤◌, ◌<◌}
 use native.Mathlib.Omega.{arith}
 use borrow.Author.Tests.{eq-eqb, eqb-true, le-leb, leb-true}
@@ -17,8 +17,8 @@ use Rattle.sensitive.specs.Ansi.{ansi, narrow}
 use Rattle.xor_obfuscation.specs.declared.Way.TheVariants.{Decrypt}
 use Rattle.xor_obfuscation.specs.Xor.{password_verifier, xor_key}
 use Rattle.xor_obfuscation.proofs.Inverse.{key_fits, verifier_fits}
-use Rattle.binary_office.specs.Walk.{BiffRecord}
-use Rattle.file_params.specs.Questions.{asked, only, lock, rc4, encryption_type, le16, type_of, structure_of, is_some}
+use Rattle.binary_office.specs.declared.BiffRecord.{BiffRecord}
+use Rattle.file_params.specs.Questions.{asked, only, lock, rc4, encryption_type, le16, type_of, structure_of}
 use Rattle.file_params.proofs.Laws.{past, asked_on, only_yes, first_yes, rest_yes}
 use Rattle.block_keys.specs.declared.Kind.{Kind}
 use Rattle.block_keys.specs.declared.Kind.TheVariants as kind
@@ -76,7 +76,7 @@ report_for choice records bytes enciphered =
 -- what a body tells
 pub record ReadBack (choice : Choice) (password salt : List ℕ) (len : ℕ) (body : List ℕ) : Type 0 where
   pub long : length body ≡ len
-  pub passed : none ≡ asked (lock body)
+  pub passed : None ≡ asked (lock body)
   pub opens : passes body password ≡ true
   pub byte : (r : BiffRecord) (o x : ℕ) → plain_byte body password r o x ≡ opened_byte choice password salt r o x
   pub report : (records bytes enciphered : ℕ)
@@ -88,21 +88,21 @@ narrow_fits [] e j = omega arith
 narrow_fits (p ∷ ps) e zero = let h = leb-true p 0xFF (and_left (leb p 0xFF) (narrow ps) e) in omega arith
 narrow_fits (p ∷ ps) e (suc j) = narrow_fits ps (and_right (leb p 0xFF) (narrow ps) e) j
 
-pub ansi_fits : (password p : List ℕ) → ansi password ≡ some p → (j : ℕ) → get_or p j 0 < 256
+pub ansi_fits : (password p : List ℕ) → ansi password ≡ Some p → (j : ℕ) → get_or p j 0 < 256
 unfolding ansi pick
 ansi_fits password p e = by_points (points password) e
   where
-    go : (ps : List ℕ) (t u : Bool) → narrow ps ≡ u → pick (t && u) (some ps) none ≡ some p → (j : ℕ) → get_or p j 0 < 256
+    go : (ps : List ℕ) (t u : Bool) → narrow ps ≡ u → pick (t && u) (Some ps) None ≡ Some p → (j : ℕ) → get_or p j 0 < 256
     go ps true true g h = let z : ps ≡ p = cc in rw (← z) (narrow_fits ps g)
     go ps true false g h = nothing_is p h
     go ps false u g h = nothing_is p h
 
-    by_points : (o : Option (List ℕ)) → elim o [ none ↦ none | some ps ↦ pick (within 1 15 (length ps) && narrow ps) (some ps) none ] ≡ some p → (j : ℕ) → get_or p j 0 < 256
-    by_points none h = nothing_is p h
-    by_points (some ps) h = go ps (within 1 15 (length ps)) (narrow ps) refl h
+    by_points : (o : Option (List ℕ)) → elim o [ None ↦ None | Some ps ↦ pick (within 1 15 (length ps) && narrow ps) (Some ps) None ] ≡ Some p → (j : ℕ) → get_or p j 0 < 256
+    by_points None h = nothing_is p h
+    by_points (Some ps) h = go ps (within 1 15 (length ps)) (narrow ps) refl h
 
 -- XOR
-module _ (password p : List ℕ) (e : ansi password ≡ some p) where
+module _ (password p : List ℕ) (e : ansi password ≡ Some p) where
   xor_type : type_of (xor_body p) ≡ 0
   unfolding xor_body
   xor_type = refl
@@ -111,7 +111,7 @@ module _ (password p : List ℕ) (e : ansi password ≡ some p) where
   unfolding xor_body
   xor_length = refl
 
-  xor_passed : none ≡ asked (lock (xor_body p))
+  xor_passed : None ≡ asked (lock (xor_body p))
   unfolding xor_body lock encryption_type asked only pick
   xor_passed = refl
 
@@ -151,11 +151,11 @@ module _ (choice : Choice) (k : Kind) (bits : ℕ) (password salt verifier body 
   not_xor : eqb (type_of body) 0 ≡ false
   not_xor = rw type
 
-  types_passed : none ≡ asked (encryption_type body)
+  types_passed : None ≡ asked (encryption_type body)
   unfolding asked encryption_type
   types_passed = past _ (le-leb 2 (length body) there) (past _ (rw type refl) (past _ (rw type refl) refl))
 
-  rc4_passed : none ≡ asked (lock body)
+  rc4_passed : None ≡ asked (lock body)
   unfolding lock
   rc4_passed =
       t.passed
@@ -196,8 +196,8 @@ module _ (password salt verifier : List ℕ) (hs : length salt ≡ 16) (hv : len
       rw six (go (ansi password) refl g)
     where
       go : (o : Option (List ℕ)) → ansi password ≡ o → is_some o ≡ true → ReadBack Xor password salt 6 (xor_body (characters (ansi password)))
-      go none e g = absurd (never (sym g))
-      go (some p) e g = rw e (back_xor password p e salt)
+      go None e g = absurd (never (sym g))
+      go (Some p) e g = rw e (back_xor password p e salt)
 
   with_97 : (len : ℕ) → fits Office97 len ≡ true → ReadBack Office97 password salt len (filepass_for Office97 password salt verifier len)
   unfolding office97_body
@@ -209,7 +209,7 @@ module _ (password salt verifier : List ℕ) (hs : length salt ≡ 16) (hv : len
       back_rc4 Office97 kind.Office97 40 password salt verifier body hv refl (omega arith) (tells_97 s salt verifier refl hs) refl (λ r o x. refl) refl refl (λ n. refl) len
       (l ∙ sym n)
 
-  with_api : (major bits len : ℕ) → asked (admitted (CryptoApi major bits)) ≡ none → fits (CryptoApi major bits) len ≡ true
+  with_api : (major bits len : ℕ) → asked (admitted (CryptoApi major bits)) ≡ None → fits (CryptoApi major bits) len ≡ true
       → ReadBack (CryptoApi major bits) password salt len (filepass_for (CryptoApi major bits) password salt verifier len)
   unfolding crypto_api_body admitted
   with_api major bits len a h =
@@ -229,7 +229,7 @@ module _ (password salt verifier : List ℕ) (hs : length salt ≡ 16) (hv : len
       back_rc4 (CryptoApi major bits) kind.CryptoApi bits password salt verifier body hv refl (omega arith)
       (tells_api s major bits len salt verifier refl hs low high first last least most eighths) refl (λ r o x. refl) refl refl (λ n. refl) len l
 
-  pub read_back : (choice : Choice) (len : ℕ) → asked (admitted choice) ≡ none → fits choice len ≡ true → takes choice password ≡ true
+  pub read_back : (choice : Choice) (len : ℕ) → asked (admitted choice) ≡ None → fits choice len ≡ true → takes choice password ≡ true
       → ReadBack choice password salt len (filepass_for choice password salt verifier len)
   read_back Xor len a h g = with_xor len h g
   read_back Office97 len a h g = with_97 len h

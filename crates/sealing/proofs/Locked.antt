@@ -8,7 +8,7 @@ use native.Mathlib.Omega.{arith}
 use lib.ListN.{length, replicate}
 use lib.Seq.{take_at}
 use Rattle.laws.proofs.Written.{Written}
-use Rattle.binary_office.specs.Walk.{BiffRecord}
+use Rattle.binary_office.specs.declared.BiffRecord.{BiffRecord}
 use Rattle.block_keys.specs.declared.Kind.{Kind}
 use Rattle.block_keys.specs.declared.Kind.TheVariants as kind
 use Rattle.block_keys.specs.declared.Schedule.{Schedule}

@@ -1,117 +1,86 @@
 -- How the checks, asked one group after the other, settle the outcome: a refusal of a group is the first of all questions', and past question 5 the scratch is wiped.
 -- Assumes nothing.
+use Rattle.excel97.specs.declared.Report.{Report}
+use Rattle.std.specs.Prelude.{Option, None, Some, Ok, Err, Result, ⊤, is_some}
 use mathlib.Core.Path.{◌≡◌, refl, sym, ap, ◌∙◌}
 use mathlib.Core.Bool.{true, false}
 use mathlib.Core.List.{List, [], ◌∷◌, ◌++◌, append_assoc}
-use mathlib.Core.Option.{Option, none, some}
 use Prim.Native.Nat.{ℕ, ◌≤◌}
-use native.Mathlib.Omega.{arith}
 use borrow.Author.Tests.{le-leb, lt-leb, leb-true}
 use lib.Dec.{leb}
 use lib.ListN.{length, drop, replicate}
 use Rattle.laws.specs.Choice.{pick}
 use Rattle.laws.proofs.Choice.{taken, left, stop}
 use Rattle.sensitive.specs.Utf8.{well_formed}
-use Rattle.binary_office.specs.Walk.{BiffRecord, walk}
+use Rattle.binary_office.specs.declared.BiffRecord.{BiffRecord}
+use Rattle.binary_office.specs.Walk.{walk}
 use Rattle.file_params.specs.declared.Refusal.{Refusal}
 use Rattle.file_params.specs.declared.Refusal.TheVariants.{ZeroRecordMissing, ZeroRecordLength, XorPasswordUnfit}
 use Rattle.file_params.specs.Refusal.{number}
-use Rattle.file_params.specs.Questions.{Question, scratch_need, ask, asked, lent, in_order, is_some}
-use Rattle.file_params.proofs.Laws.{past, refused, asked_on, asked_stop}
+use Rattle.file_params.specs.Questions.{Question, scratch_need, ask, asked, lent, in_order, unless}
+use Rattle.file_params.proofs.Laws.{past, refused, asked_on, asked_stop, unless_refused, unless_passed}
 use Rattle.file_params.proofs.Tables.{given_passes}
-use Rattle.survey.specs.declared.Checked.{Checked}
-use Rattle.survey.specs.declared.Checked.TheVariants as checked
 use Rattle.survey.specs.declared.Counts.{Counts}
-use Rattle.survey.specs.declared.Found.TheVariants as found
-use Rattle.survey.specs.Checked.{checked_of}
-use Rattle.survey.specs.Survey.{len_of, counts_of}
-use Rattle.survey.specs.Steps.{found_of}
-use Rattle.survey.proofs.Groups.{checked_refused, checked_fine}
+use Rattle.survey.specs.Survey.{counts_of}
 use Rattle.excel97.specs.Open.{wiped}
 use Rattle.sealing.specs.declared.Choice.{Choice}
 use Rattle.sealing.specs.declared.Choice.TheVariants.{Xor, Office97, CryptoApi}
-use Rattle.sealing.specs.declared.Answer.{Answer}
-use Rattle.sealing.specs.declared.Answer.TheVariants.{Refused}
-use Rattle.sealing.specs.Seal.{zero_of, admitted, fits, zeroed, takes, of_plain, seal_questions, outcome_by, outcome, Seals}
-use Rattle.sealing.specs.Steps.{at_place, Ready, later_refusal, Settles}
-use Rattle.sealing.proofs.ZeroRecords.{zero_located}
-
--- the zero record that was found
-module _ (plain : List ℕ) where
-  not_found : (o : Option BiffRecord) → found_of o ≡ found.Nothing → is_some o ≡ false
-  not_found none e = refl
-  not_found (some r) e = cc
-
-  is_found : (o : Option BiffRecord) (at len : ℕ) → found_of o ≡ found.At at len → (r : BiffRecord) × (o ≡ some r) × (r.at ≡ at) × (r.len ≡ len)
-  is_found none at len e = let z : ◌≡◌ {A = ℕ} 0 1 = cc in absurd (no z)
-    where
-      no : ◌≡◌ {A = ℕ} 0 1 → ⊥
-      no z = omega arith
-  is_found (some r) at len e = (r, refl, cc, cc)
-
-  pub zero_is : (at len : ℕ) → found_of (zero_of plain) ≡ found.At at len → zero_of plain ≡ at_place at len
-  zero_is at len e =
-      let f = is_found (zero_of plain) at len e in
-      let id = (zero_located plain 0 (omega arith) f.0 f.1).id_zero in
-      f.1 ∙ ap some (same f.0 at 0 len f.2 id f.3)
-    where
-      same : (r : BiffRecord) (at id len : ℕ) → r.at ≡ at → r.id ≡ id → r.len ≡ len → r ≡ record { at = at; id = id; len = len }
-      same r at id len a b c = rw (← a, ← b, ← c)
+use Rattle.sealing.specs.Seal.{zero_of, admitted, fits, zeroed, takes, of_plain, seal_questions, outcome_by, outcome, Seals, len_of}
+use Rattle.sealing.specs.Steps.{Ready, later_refusal, Settles}
 
 -- questions 6 to 31
 module _ (plain : List ℕ) (choice : Choice) (counts : Counts) (ec : counts ≡ counts_of (walk plain)) where
   abbrev front : List Question
-  front = in_order (walk plain).ends (walk plain).records ++ admitted choice
+  front = in_order (walk plain).fault (walk plain).records ++ admitted choice
 
   abbrev rest : List Question
   rest = zeroed choice (zero_of plain)
 
   joined : front ++ rest ≡ of_plain plain choice
   unfolding of_plain
-  joined = append_assoc (in_order (walk plain).ends (walk plain).records) (admitted choice) rest
+  joined = append_assoc (in_order (walk plain).fault (walk plain).records) (admitted choice) rest
 
-  front_by : (k : Checked) → k ≡ checked_of (asked (in_order counts.end (walk plain).records ++ admitted choice)) → checked_of (asked front) ≡ k
-  front_by k e = sym (e ∙ ap (λ (c : Counts). checked_of (asked (in_order c.end (walk plain).records ++ admitted choice))) ec)
+  front_by : (k : Result ⊤ Refusal) → k ≡ unless tt (asked (in_order counts.fault (walk plain).records ++ admitted choice)) → unless tt (asked front) ≡ k
+  front_by k e = sym (e ∙ ap (λ (c : Counts). unless tt (asked (in_order c.fault (walk plain).records ++ admitted choice))) ec)
 
-  pub front_refused : (k : Checked) → k ≡ checked_of (asked (in_order counts.end (walk plain).records ++ admitted choice)) → (r : Refusal) → k ≡ checked.Refused r
-      → some r ≡ asked (of_plain plain choice)
-  front_refused k e r g = asked_stop front rest r (checked_refused (asked front) r (front_by k e ∙ g)) ∙ ap asked joined
+  pub front_refused : (k : Result ⊤ Refusal) → k ≡ unless tt (asked (in_order counts.fault (walk plain).records ++ admitted choice)) → (r : Refusal) → k ≡ Err r
+      → Some r ≡ asked (of_plain plain choice)
+  front_refused k e r g = asked_stop front rest r (unless_refused tt (asked front) r (front_by k e ∙ g)) ∙ ap asked joined
 
-  module _ (k : Checked) (e : k ≡ checked_of (asked (in_order counts.end (walk plain).records ++ admitted choice))) (g : k ≡ checked.Fine) where
+  module _ (k : Result ⊤ Refusal) (e : k ≡ unless tt (asked (in_order counts.fault (walk plain).records ++ admitted choice))) (g : k ≡ (Ok tt)) where
     left_over : asked (of_plain plain choice) ≡ asked rest
-    left_over = sym (ap asked joined) ∙ asked_on front rest (checked_fine (asked front) (front_by k e ∙ g))
+    left_over = sym (ap asked joined) ∙ asked_on front rest (unless_passed tt tt (asked front) (front_by k e ∙ g))
 
-    pub zero_missing : found_of (zero_of plain) ≡ found.Nothing → some ZeroRecordMissing ≡ asked (of_plain plain choice)
+    pub zero_missing : zero_of plain ≡ None → Some ZeroRecordMissing ≡ asked (of_plain plain choice)
     unfolding asked zeroed
-    zero_missing f = refused _ (not_found plain (zero_of plain) f) ∙ sym left_over
+    zero_missing f = refused _ (rw f refl) ∙ sym left_over
 
-    module _ (at len : ℕ) (f : found_of (zero_of plain) ≡ found.At at len) where
+    module _ (zero : BiffRecord) (f : zero_of plain ≡ Some zero) where
       there : is_some (zero_of plain) ≡ true
-      there = ap is_some (zero_is plain at len f)
+      there = ap is_some f
 
-      length_of_lem : len_of (zero_of plain) ≡ len
-      length_of_lem = ap len_of (zero_is plain at len f)
+      length_is : len_of (zero_of plain) ≡ zero.len
+      length_is = ap len_of f
 
-      pub length_unfit : fits choice len ≡ false → some (ZeroRecordLength len) ≡ asked (of_plain plain choice)
+      pub length_unfit : fits choice zero.len ≡ false → Some (ZeroRecordLength zero.len) ≡ asked (of_plain plain choice)
       unfolding asked zeroed
       length_unfit h =
-          ap (λ (n : ℕ). some (ZeroRecordLength n)) (sym length_of_lem)
-          ∙ past _ there (refused _ (ap (fits choice) length_of_lem ∙ h))
+          ap (λ (n : ℕ). Some (ZeroRecordLength n)) (sym length_is)
+          ∙ past _ there (refused _ (ap (fits choice) length_is ∙ h))
           ∙ sym left_over
 
-      all_yes : fits choice len ≡ true → none ≡ asked rest
+      all_yes : fits choice zero.len ≡ true → None ≡ asked rest
       unfolding asked zeroed
-      all_yes h = past _ there (past _ (ap (fits choice) length_of_lem ∙ h) refl)
+      all_yes h = past _ there (past _ (ap (fits choice) length_is ∙ h) refl)
 
-      pub is_ready : fits choice len ≡ true → (password scratch output : List ℕ) → well_formed password ≡ true → 64 ≤ length scratch → length plain ≤ length output
-          → Ready plain choice password scratch output counts.records counts.enciphered at len
+      pub is_ready : fits choice zero.len ≡ true → (password scratch output : List ℕ) → well_formed password ≡ true → 64 ≤ length scratch → length plain ≤ length output
+          → Ready plain choice password scratch output counts zero
       is_ready h password scratch output u w o =
           record {
             passed = all_yes h ∙ sym left_over;
-            found = zero_is plain at len f;
+            found = f;
             room = o;
-            counted = ap (λ (c : Counts). c.records) ec;
-            summed = ap (λ (c : Counts). c.enciphered) ec;
+            counted = ec;
             password_well_formed = u;
             enough = w;
           }
@@ -121,12 +90,12 @@ module _ (plain password : List ℕ) (choice : Choice) (salt verifier scratch ou
   abbrev last : List Question
   last = ask (takes choice password) XorPasswordUnfit ∷ []
 
-  settled_by : (d : Option Refusal) (r : Refusal) → some r ≡ d
-      → (Refused r ≡ (outcome_by plain password choice salt verifier scratch output d).answer) × (output ≡ (outcome_by plain password choice salt verifier scratch output d).output)
-  settled_by none r e = (cc, cc)
-  settled_by (some q) r e = (let z : r ≡ q = cc in ap Refused z, refl)
+  settled_by : (d : Option Refusal) (r : Refusal) → Some r ≡ d
+      → (Err r ≡ (outcome_by plain password choice salt verifier scratch output d).answer) × (output ≡ (outcome_by plain password choice salt verifier scratch output d).output)
+  settled_by None r e = (cc, cc)
+  settled_by (Some q) r e = (let z : r ≡ q = cc in ap Err z, refl)
 
-  pub refused_alone : (r : Refusal) → some r ≡ asked (of_plain plain choice) → Settles plain password choice salt verifier scratch output (Refused r) scratch output
+  pub refused_alone : (r : Refusal) → Some r ≡ asked (of_plain plain choice) → Settles plain password choice salt verifier scratch output (Err r) scratch output
   refused_alone r e =
       let g = settled_by (later_refusal plain password choice) r (asked_stop (of_plain plain choice) last r e) in
       record { answered = g.0; same = refl; kept = refl; output_left = g.1 }
@@ -134,7 +103,7 @@ module _ (plain password : List ℕ) (choice : Choice) (salt verifier scratch ou
   abbrev lending : List Question
   lending = lent scratch_need password (length plain) (length scratch) (length output)
 
-  pub refused_lent : (r : Refusal) → some r ≡ asked lending → Seals plain password choice salt verifier scratch output (Refused r) scratch output
+  pub refused_lent : (r : Refusal) → Some r ≡ asked lending → Seals plain password choice salt verifier scratch output (Err r) scratch output
   unfolding outcome seal_questions lent
   refused_lent r e =
       let by = outcome_by plain password choice salt verifier scratch output in
@@ -147,28 +116,28 @@ module _ (plain password : List ℕ) (choice : Choice) (salt verifier scratch ou
       }
 
   -- the refusals behind question 5 have a number of 6 or more
-  later_number : (r : Refusal) → later_refusal plain password choice ≡ some r → 6 ≤ number r
+  later_number : (r : Refusal) → later_refusal plain password choice ≡ Some r → 6 ≤ number r
   unfolding of_plain in_order admitted zeroed
   later_number r e = leb-true 6 (number r) (by_choice choice e)
     where
-      by_choice : (c : Choice) → asked (of_plain plain c ++ (ask (takes c password) XorPasswordUnfit ∷ [])) ≡ some r → leb 6 (number r) ≡ true
+      by_choice : (c : Choice) → asked (of_plain plain c ++ (ask (takes c password) XorPasswordUnfit ∷ [])) ≡ Some r → leb 6 (number r) ≡ true
       by_choice Xor e = given_passes (λ (q : Refusal). leb 6 (number q)) (of_plain plain Xor ++ (ask (takes Xor password) XorPasswordUnfit ∷ [])) r refl e
       by_choice Office97 e = given_passes (λ (q : Refusal). leb 6 (number q)) (of_plain plain Office97 ++ (ask (takes Office97 password) XorPasswordUnfit ∷ [])) r refl e
       by_choice (CryptoApi major bits) e =
           given_passes (λ (q : Refusal). leb 6 (number q)) (of_plain plain (CryptoApi major bits) ++ (ask (takes (CryptoApi major bits) password) XorPasswordUnfit ∷ [])) r refl e
 
-  pub scratch_wiped : (d : Option Refusal) → ((r : Refusal) → d ≡ some r → 6 ≤ number r)
+  pub scratch_wiped : (d : Option Refusal) → ((r : Refusal) → d ≡ Some r → 6 ≤ number r)
       → (outcome_by plain password choice salt verifier scratch output d).scratch ≡ wiped scratch_need scratch
-  scratch_wiped none f = refl
-  scratch_wiped (some r) f = left scratch (wiped scratch_need scratch) (lt-leb (number r) 5 (f r refl))
+  scratch_wiped None f = refl
+  scratch_wiped (Some r) f = left scratch (wiped scratch_need scratch) (lt-leb (number r) 5 (f r refl))
 
-  module _ (e : none ≡ asked lending) where
+  module _ (e : None ≡ asked lending) where
     all_later : asked (seal_questions plain password choice scratch output) ≡ later_refusal plain password choice
     unfolding seal_questions
     all_later = asked_on lending (of_plain plain choice ++ last) e
 
     -- the scratch is wiped at the end, whatever was settled: n bytes were wiped, and as many are wanted
-    pub settled_all : (n : ℕ) (a : Answer) (w₁ w₂ o₁ : List ℕ) → Settles plain password choice salt verifier scratch output a w₁ o₁ → 64 ≤ length w₁
+    pub settled_all : (n : ℕ) (a : (Result Report Refusal)) (w₁ w₂ o₁ : List ℕ) → Settles plain password choice salt verifier scratch output a w₁ o₁ → 64 ≤ length w₁
         → w₂ ≡ pick (leb n (length w₁)) (replicate n 0 ++ drop n w₁) w₁ → n ≡ scratch_need → Seals plain password choice salt verifier scratch output a w₂ o₁
     unfolding outcome
     settled_all n a w₁ w₂ o₁ t h g en =

@@ -1,40 +1,35 @@
 -- The two round trips over any runs: what one operation wrote passes the other's questions, and gives back the report and the stream.
 -- Assumes nothing.
+use Rattle.std.specs.Prelude.{Option, None, Some, Ok, Result, is_some}
 use mathlib.Core.Path.{◌≡◌, refl, sym, ap, subst, ◌∙◌}
 use mathlib.Core.Bool.{Bool, true, not}
 use mathlib.Core.List.{List, [], ◌∷◌, ◌++◌}
-use mathlib.Core.Option.{Option, none, some}
 use Prim.Native.Nat.{ℕ, ◌≤◌}
 use native.Mathlib.Omega.{arith}
 use lib.ListN.{length, take, drop, length-take, length-drop}
 use lib.Seq.{take_at, drop_at}
 use Rattle.laws.proofs.Choice.{taken}
 use Rattle.sensitive.specs.Ansi.{ansi}
-use Rattle.binary_office.specs.declared.WalkEnd.TheVariants as end
-use Rattle.binary_office.specs.Walk.{BiffRecord, walk}
+use Rattle.binary_office.specs.declared.BiffRecord.{BiffRecord}
+use Rattle.binary_office.specs.Walk.{walk}
 use Rattle.binary_office.proofs.Walks.{record_within}
 use Rattle.file_params.specs.declared.Refusal.{Refusal}
 use Rattle.file_params.specs.declared.Refusal.TheVariants.{WrongPassword, XorPasswordUnfit}
-use Rattle.file_params.specs.Questions.{Question, scratch_need, ask, asked, lent, in_order, locked, book, lock, of_stream, questions, starts_bof, filepass, other_id, filepass_body, body_of, structure_of, is_some}
+use Rattle.file_params.specs.Questions.{Question, scratch_need, ask, asked, lent, in_order, locked, book, lock, of_stream, questions, starts_bof, filepass, other_id, filepass_body, body_of, structure_of}
 use Rattle.file_params.proofs.Laws.{past, asked_on, none_of_both, first_yes, rest_yes}
 use Rattle.excel97.specs.declared.Report.{Report}
-use Rattle.excel97.specs.declared.Answer as excel97
-use Rattle.excel97.specs.declared.Answer.TheVariants.{Opened}
 use Rattle.excel97.specs.Open.{xor_matches, rc4_matches, passes, plain, report, outcome_by, outcome_with, Opens}
 use Rattle.excel97.proofs.Blanked.{never}
 use Rattle.excel97.proofs.PlainBytes.{length_plain}
 use Rattle.excel97.proofs.Settled.{HasOpened, has_opened}
-use Rattle.survey.specs.Survey.{len_of}
 use Rattle.survey.proofs.First.{in_order_lem}
 use Rattle.survey.proofs.Records.{located}
 use Rattle.survey.proofs.Told.{ends_clean}
 use Rattle.sealing.specs.declared.Choice.{Choice}
 use Rattle.sealing.specs.declared.Choice.TheVariants.{Xor, Office97, CryptoApi}
-use Rattle.sealing.specs.declared.Answer.{Answer}
-use Rattle.sealing.specs.declared.Answer.TheVariants.{Sealed}
 use Rattle.sealing.specs.Filepass.{characters, xor_body, filepass_for}
 use Rattle.sealing.specs.Seal as seal
-use Rattle.sealing.specs.Seal.{zero_of, admitted, fits, zeroed, takes, of_plain, seal_questions, sealed, outcome, Seals}
+use Rattle.sealing.specs.Seal.{zero_of, admitted, fits, zeroed, takes, of_plain, seal_questions, sealed, outcome, Seals, len_of}
 use Rattle.sealing.specs.Theorems.{Bytes, GivesBack, OpensAgain, SealsAgain}
 use Rattle.sealing.proofs.Bodies.{ReadBack, read_back}
 use Rattle.sealing.proofs.Sealed.{length_sealed, body_is, sealed_passes}
@@ -50,13 +45,13 @@ module _ (whole output output' : List ℕ) (n : ℕ) (size : length whole ≡ n)
   behind = rw written (drop_at whole (drop n output) n size)
 
 -- a question that is answered by a yes
-last_yes : (t : Bool) (r : Refusal) → t ≡ true → none ≡ asked (ask t r ∷ [])
+last_yes : (t : Bool) (r : Refusal) → t ≡ true → None ≡ asked (ask t r ∷ [])
 unfolding asked
 last_yes t r e = past _ e refl
 
 -- opening what was sealed
 module _ (plain_stream password : List ℕ) (choice : Choice) (salt verifier scratch output : List ℕ) (told : Report) (scratch₁ output₁ : List ℕ) (bytes : Bytes plain_stream)
-    (hs : length salt ≡ 16) (hv : length verifier ≡ 16) (run : Seals plain_stream password choice salt verifier scratch output (Sealed told) scratch₁ output₁) where
+    (hs : length salt ≡ 16) (hv : length verifier ≡ 16) (run : Seals plain_stream password choice salt verifier scratch output (Ok told) scratch₁ output₁) where
   abbrev whole : List ℕ
   whole = sealed plain_stream password choice salt verifier
 
@@ -72,14 +67,14 @@ module _ (plain_stream password : List ℕ) (choice : Choice) (salt verifier scr
   back : ReadBack choice password salt ran.zero.len (filepass_for choice password salt verifier ran.zero.len)
   back = read_back password salt verifier hs hv choice ran.zero.len ran.passed.admits fitting ran.taken
 
-  alone_passed : none ≡ asked (of_stream whole)
+  alone_passed : None ≡ asked (of_stream whole)
   alone_passed = sealed_passes plain_stream password choice salt verifier ran.zero ran.found ran.passed.clean_end back ran.passed.starts_bof_lem
 
   check_passed : passes (filepass_body whole) password ≡ true
   check_passed = ap (λ (b : List ℕ). passes b password) (body_is plain_stream password choice salt verifier ran.zero ran.found ran.passed.clean_end back) ∙ back.opens
 
   module _ (scratch₂ output₂ : List ℕ) (enough : scratch_need ≤ length scratch₂) (room : length plain_stream ≤ length output₂) where
-    all_passed : none ≡ asked (questions scratch_need whole password scratch₂ output₂ (passes (filepass_body whole) password))
+    all_passed : None ≡ asked (questions scratch_need whole password scratch₂ output₂ (passes (filepass_body whole) password))
     unfolding questions
     all_passed =
         let l = size in
@@ -91,8 +86,8 @@ module _ (plain_stream password : List ℕ) (choice : Choice) (salt verifier scr
         ∙ asked_on (of_stream whole) last alone_passed
         ∙ sym (last_yes (passes (filepass_body whole) password) WrongPassword check_passed))
 
-    module _ (answer : excel97.Answer) (scratch₃ output₃ : List ℕ) (opens : Opens whole password scratch₂ output₂ answer scratch₃ output₃) where
-      answered : answer ≡ Opened (report whole)
+    module _ (answer : (Result Report Refusal)) (scratch₃ output₃ : List ℕ) (opens : Opens whole password scratch₂ output₂ answer scratch₃ output₃) where
+      answered : answer ≡ Ok (report whole)
       unfolding outcome_with
       answered = opens.answered ∙ ap (λ (d : Option Refusal). (outcome_by scratch_need whole password scratch₂ output₂ d).answer) (sym all_passed)
 
@@ -102,7 +97,7 @@ module _ (plain_stream password : List ℕ) (choice : Choice) (salt verifier scr
           opens.output_left ∙ ap (λ (d : Option Refusal). (outcome_by scratch_need whole password scratch₂ output₂ d).output) (sym all_passed)
           ∙ rw (size, opened_again plain_stream password choice salt verifier ran.zero ran.found ran.passed.clean_end back bytes)
 
-      given_back : (x : Report) × (answer ≡ Opened x) × GivesBack x told plain_stream output₂ output₃
+      given_back : (x : Report) × (answer ≡ Ok x) × GivesBack x told plain_stream output₂ output₃
       given_back = (
         report whole,
         answered,
@@ -126,20 +121,20 @@ opens_again =
     }
 
 -- questions 30 and 31, of a zero record of a length that fits
-zero_passed : (choice : Choice) (z : BiffRecord) → fits choice z.len ≡ true → none ≡ asked (zeroed choice (some z))
+zero_passed : (choice : Choice) (z : BiffRecord) → fits choice z.len ≡ true → None ≡ asked (zeroed choice (Some z))
 unfolding asked zeroed
 zero_passed choice z e = past _ refl (past _ e refl)
 
 -- a run that opened a stream
-module _ (stream password scratch output : List ℕ) (told : Report) (scratch₁ output₁ : List ℕ) (run : Opens stream password scratch output (Opened told) scratch₁ output₁) where
-  none_given : (d : Option Refusal) → Opened told ≡ (outcome_by scratch_need stream password scratch output d).answer → d ≡ none
-  none_given none e = refl
-  none_given (some r) e = cc
+module _ (stream password scratch output : List ℕ) (told : Report) (scratch₁ output₁ : List ℕ) (run : Opens stream password scratch output (Ok told) scratch₁ output₁) where
+  none_given : (d : Option Refusal) → Ok told ≡ (outcome_by scratch_need stream password scratch output d).answer → d ≡ None
+  none_given None e = refl
+  none_given (Some r) e = cc
 
   abbrev last_asked : List Question
   last_asked = ask (passes (filepass_body stream) password) WrongPassword ∷ []
 
-  all_asked : asked (lent scratch_need password (length stream) (length scratch) (length output) ++ (of_stream stream ++ last_asked)) ≡ none
+  all_asked : asked (lent scratch_need password (length stream) (length scratch) (length output) ++ (of_stream stream ++ last_asked)) ≡ None
   unfolding outcome_with questions
   all_asked = none_given (asked (questions scratch_need stream password scratch output (passes (filepass_body stream) password))) run.answered
 
@@ -148,7 +143,7 @@ module _ (stream password scratch output : List ℕ) (told : Report) (scratch₁
       let lending = lent scratch_need password (length stream) (length scratch) (length output) in
       lent_told password (length stream) (length scratch) (length output) (none_of_both lending (of_stream stream ++ last_asked) all_asked).0
 
-  rest_asked : (asked (of_stream stream) ≡ none) × (asked last_asked ≡ none)
+  rest_asked : (asked (of_stream stream) ≡ None) × (asked last_asked ≡ None)
   rest_asked =
       let lending = lent scratch_need password (length stream) (length scratch) (length output) in
       none_of_both (of_stream stream) last_asked (none_of_both lending (of_stream stream ++ last_asked) all_asked).1
@@ -159,11 +154,11 @@ module _ (stream password scratch output : List ℕ) (told : Report) (scratch₁
   opened_run : HasOpened stream password output told output₁
   opened_run = has_opened stream password scratch output told scratch₁ output₁ run
 
-  clean : (walk stream).ends ≡ end.Clean
+  clean : (walk stream).fault ≡ None
   clean = ends_clean stream (sym rest_asked.0)
 
   -- BOF, FILEPASS, and no other id before it
-  booked : asked (book stream) ≡ none
+  booked : asked (book stream) ≡ None
   unfolding of_stream
   booked = (none_of_both (book stream) (lock (filepass_body stream)) rest_asked.0).0
 
@@ -171,21 +166,21 @@ module _ (stream password scratch output : List ℕ) (told : Report) (scratch₁
   unfolding book in_order locked
   starts = first_yes _ (drop 2 (book stream)) (rest_yes _ (drop 1 (book stream)) booked)
 
-  some_first : (o : Option BiffRecord) → is_some o ≡ true → (f : BiffRecord) × (o ≡ some f)
-  some_first none e = absurd (never (sym e))
-  some_first (some f) e = (f, refl)
+  some_first : (o : Option BiffRecord) → is_some o ≡ true → (f : BiffRecord) × (o ≡ Some f)
+  some_first None e = absurd (never (sym e))
+  some_first (Some f) e = (f, refl)
 
-  found : (f : BiffRecord) × (filepass (walk stream).records ≡ some f)
+  found : (f : BiffRecord) × (filepass (walk stream).records ≡ Some f)
   unfolding book in_order locked
   found =
       some_first (filepass (walk stream).records)
       (first_yes _ (drop 3 (book stream)) (rest_yes _ (drop 2 (book stream)) (rest_yes _ (drop 1 (book stream)) booked)))
 
-  none_other : (o : Option ℕ) → not (is_some o) ≡ true → o ≡ none
-  none_other none e = refl
-  none_other (some i) e = absurd (never (sym e))
+  none_other : (o : Option ℕ) → not (is_some o) ≡ true → o ≡ None
+  none_other None e = refl
+  none_other (Some i) e = absurd (never (sym e))
 
-  others : other_id (walk stream).records ≡ none
+  others : other_id (walk stream).records ≡ None
   unfolding book in_order locked
   others =
       none_other (other_id (walk stream).records)
@@ -200,12 +195,12 @@ module _ (stream password scratch output : List ℕ) (told : Report) (scratch₁
       body = xor_body (characters (ansi password))
 
       by_ansi : (o : Option (List ℕ)) → xor_matches body o ≡ true → is_some o ≡ true
-      by_ansi none e = absurd (never (sym e))
-      by_ansi (some p) e = refl
+      by_ansi None e = absurd (never (sym e))
+      by_ansi (Some p) e = refl
   takes_it Office97 salt verifier len e = refl
   takes_it (CryptoApi major bits) salt verifier len e = refl
 
-  module _ (bytes : Bytes stream) (choice : Choice) (salt verifier : List ℕ) (hs : length salt ≡ 16) (hv : length verifier ≡ 16) (admits : asked (admitted choice) ≡ none)
+  module _ (bytes : Bytes stream) (choice : Choice) (salt verifier : List ℕ) (hs : length salt ≡ 16) (hv : length verifier ≡ 16) (admits : asked (admitted choice) ≡ None)
       (fitting : fits choice (length (filepass_body stream)) ≡ true)
       (as_written : filepass_body stream ≡ filepass_for choice password salt verifier (length (filepass_body stream))) where
     abbrev opened : List ℕ
@@ -232,24 +227,24 @@ module _ (stream password scratch output : List ℕ) (told : Report) (scratch₁
     same_stream : sealed opened password choice salt verifier ≡ stream
     same_stream = sealed_again stream password choice salt verifier found.0 found.1 others clean bytes written_there back_again
 
-    zero_there : zero_of opened ≡ some (record { at = found.0.at; id = 0; len = found.0.len })
+    zero_there : zero_of opened ≡ Some (record { at = found.0.at; id = 0; len = found.0.len })
     zero_there = zero_found stream password choice salt verifier found.0 found.1 others clean bytes written_there back_again
 
-    plain_passed : none ≡ asked (of_plain opened choice)
+    plain_passed : None ≡ asked (of_plain opened choice)
     unfolding of_plain
     plain_passed =
         let walked = walk_opened stream password choice salt verifier found.0 found.1 others clean bytes written_there back_again in
-        let first = in_order (walk opened).ends (walk opened).records in
+        let first = in_order (walk opened).fault (walk opened).records in
         let rest = zeroed choice (zero_of opened) in
         sym (asked_on first (admitted choice ++ rest)
-        (in_order_lem (walk opened).ends (walk opened).records (walked.1 ∙ clean)
+        (in_order_lem (walk opened).fault (walk opened).records (walked.1 ∙ clean)
         (starts_opened stream password choice salt verifier found.0 found.1 others clean bytes written_there back_again starts))
         ∙ asked_on (admitted choice) rest (sym admits)
         ∙ ap (λ (z : Option BiffRecord). asked (zeroed choice z)) zero_there
         ∙ sym (zero_passed choice (record { at = found.0.at; id = 0; len = found.0.len }) fits_there))
 
     module _ (scratch₂ output₂ : List ℕ) (enough : scratch_need ≤ length scratch₂) (room : length stream ≤ length output₂) where
-      seal_passed : none ≡ asked (seal_questions opened password choice scratch₂ output₂)
+      seal_passed : None ≡ asked (seal_questions opened password choice scratch₂ output₂)
       unfolding seal_questions
       seal_passed =
           let l = length_plain stream password in
@@ -261,12 +256,12 @@ module _ (stream password scratch output : List ℕ) (told : Report) (scratch₁
           ∙ asked_on (of_plain opened choice) last plain_passed
           ∙ sym (last_yes (takes choice password) XorPasswordUnfit takes_password))
 
-      module _ (answer : Answer) (scratch₃ output₃ : List ℕ) (seals : Seals opened password choice salt verifier scratch₂ output₂ answer scratch₃ output₃) where
-        sealed_answer : answer ≡ Sealed (report stream)
+      module _ (answer : (Result Report Refusal)) (scratch₃ output₃ : List ℕ) (seals : Seals opened password choice salt verifier scratch₂ output₂ answer scratch₃ output₃) where
+        sealed_answer : answer ≡ Ok (report stream)
         unfolding outcome
         sealed_answer =
             seals.answered ∙ ap (λ (d : Option Refusal). (seal.outcome_by opened password choice salt verifier scratch₂ output₂ d).answer) (sym seal_passed)
-            ∙ ap (λ (s : List ℕ). Sealed (report s)) same_stream
+            ∙ ap (λ (s : List ℕ). Ok (report s)) same_stream
 
         sealed_output : output₃ ≡ stream ++ drop (length stream) output₂
         unfolding outcome
@@ -274,7 +269,7 @@ module _ (stream password scratch output : List ℕ) (told : Report) (scratch₁
             seals.output_left ∙ ap (λ (d : Option Refusal). (seal.outcome_by opened password choice salt verifier scratch₂ output₂ d).output) (sym seal_passed)
             ∙ rw (same_stream, length_plain stream password)
 
-        sealed_back : (x : Report) × (answer ≡ Sealed x) × GivesBack x told stream output₂ output₃
+        sealed_back : (x : Report) × (answer ≡ Ok x) × GivesBack x told stream output₂ output₃
         sealed_back = (
           report stream,
           sealed_answer,

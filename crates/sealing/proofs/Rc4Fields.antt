@@ -1,10 +1,10 @@
 -- The fields of an RC4 body that sealing writes, as Open's definitions read them: questions 12 to 26 are passed, and the lock, the salt, the verifier and its digest are
 -- those that were written.
 -- Assumes nothing.
+use Rattle.std.specs.Prelude.{None}
 use mathlib.Core.Path.{◌≡◌, refl, sym, ap, subst, ◌∙◌}
 use mathlib.Core.Bool.{true, false, ◌&&◌}
 use mathlib.Core.List.{List, [], ◌∷◌, ◌++◌, append_assoc, append-nil}
-use mathlib.Core.Option.{none}
 use Prim.Native.Nat.{ℕ, ◌+◌, ◌-◌, ◌%◌, ◌≤◌, ◌<◌}
 use native.Mathlib.Nat.{add-zero}
 use native.Mathlib.Omega.{arith}
@@ -30,7 +30,7 @@ use Rattle.sealing.proofs.Reading.{le32_behind, part_at, byte_at, two_read}
 
 -- what a structure tells, once its questions are passed
 pub record Tells (structure : List ℕ) (k : Kind) (bits : ℕ) (salt verifier hash : List ℕ) : Type 0 where
-  pub passed : none ≡ asked (rc4 structure)
+  pub passed : None ≡ asked (rc4 structure)
   pub kind_is : (lock_of structure).kind ≡ k
   pub bits_are : (lock_of structure).key_bits ≡ bits
   pub unsealed : (lock_of structure).summary_sealed ≡ false
@@ -72,7 +72,7 @@ module _ (s : Schedule) (salt verifier : List ℕ) (ek : s.kind ≡ kind.Office9
   unfolding lock_of
   lock_97 = taken office97_lock (crypto_api_lock (front ++ (salt ++ (ev ++ eh)))) refl
 
-  passed_97 : none ≡ asked (rc4 (front ++ (salt ++ (ev ++ eh))))
+  passed_97 : None ≡ asked (rc4 (front ++ (salt ++ (ev ++ eh))))
   unfolding rc4 version office97 asked only pick
   passed_97 =
       let st = front ++ (salt ++ (ev ++ eh)) in
@@ -240,7 +240,7 @@ module _ (s : Schedule) (major bits len : ℕ) (salt verifier : List ℕ) (ek : 
         left office97_lock (crypto_api_lock (head ++ tail)) not_97
         ∙ rw (bits_read, left 40 bits not_none, flags_read, verifier_place)
 
-    passed_api : none ≡ asked (crypto_api (head ++ tail))
+    passed_api : None ≡ asked (crypto_api (head ++ tail))
     unfolding asked crypto_api
     passed_api =
         let st = head ++ tail in
@@ -258,14 +258,14 @@ module _ (s : Schedule) (major bits len : ℕ) (salt verifier : List ℕ) (ek : 
         (past _ (rw salt_size_read refl)
         (past _ (rw hash_size_read refl) refl)))))))))))
 
-    version_passed : none ≡ asked (version (head ++ tail))
+    version_passed : None ≡ asked (version (head ++ tail))
     unfolding asked version
     version_passed =
         let st = head ++ tail in
         let l = whole_length in
         past _ (le-leb 4 (length st) (omega arith)) (past _ (or_right (is_office97 st) (is_crypto_api st) is_api) refl)
 
-    all_passed : none ≡ asked (rc4 (head ++ tail))
+    all_passed : None ≡ asked (rc4 (head ++ tail))
     unfolding rc4
     all_passed =
         let st = head ++ tail in

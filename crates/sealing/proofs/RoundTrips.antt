@@ -1,10 +1,10 @@
 -- Both round trips, by the three places of an offset. In the zero record's id and body the one side has zeros and the other the FILEPASS; in headers, clear parts and
 -- padding both have the same byte; anywhere else the byte goes through a function and its inverse.
 -- Assumes nothing.
+use Rattle.std.specs.Prelude.{Option, None, Some}
 use mathlib.Core.Path.{◌≡◌, refl, sym, ap, ◌∙◌}
 use mathlib.Core.Bool.{true, false}
 use mathlib.Core.List.{List}
-use mathlib.Core.Option.{Option, none, some}
 use Prim.Native.Nat.{ℕ, ◌+◌, ◌-◌, ◌≤◌, ◌<◌}
 use native.Mathlib.Nat.{mod-eq_of_lt, div-eq_of_lt}
 use native.Mathlib.Omega.{arith}
@@ -14,8 +14,8 @@ use lib.Seq.{ext_get_or, get_or-take, get_or-drop}
 use Rattle.laws.specs.Choice.{pick}
 use Rattle.laws.proofs.Choice.{taken, left, either}
 use Rattle.binary_office.specs.declared.Step.TheVariants as step
-use Rattle.binary_office.specs.declared.WalkEnd.TheVariants as end
-use Rattle.binary_office.specs.Walk.{BiffRecord, step_at, walk, records_end, all_zero}
+use Rattle.binary_office.specs.declared.BiffRecord.{BiffRecord}
+use Rattle.binary_office.specs.Walk.{step_at, walk, records_end, all_zero}
 use Rattle.binary_office.proofs.Headers.{le16_is}
 use Rattle.binary_office.proofs.Renamed.{renamed}
 use Rattle.binary_office.proofs.Walks.{record_there, record_within}
@@ -37,7 +37,7 @@ use Rattle.sealing.proofs.Sealed.{starts_kept, length_sealed, sealed_at_lem, loc
 use Rattle.sealing.proofs.Undone.{opened_sealed, sealed_opened, zero_at, all_zero_lem, low_byte}
 
 -- the id and the body of a record, or neither
-by_blank : {X : Type 0} (r : BiffRecord) (o : ℕ) → (r.at ≤ o → o < r.at + 2 → X) → (r.at + 4 ≤ o → o < r.at + 4 + r.len → X) → (blanked (some r) o ≡ false → X) → X
+by_blank : {X : Type 0} (r : BiffRecord) (o : ℕ) → (r.at ≤ o → o < r.at + 2 → X) → (r.at + 4 ≤ o → o < r.at + 4 + r.len → X) → (blanked (Some r) o ≡ false → X) → X
 by_blank r o f g h =
     by_place_lem r.at r.len o (λ p. h (blank_before r o p)) f (λ p q. h (blank_length r o p q)) g (λ p. h (blank_behind r o p))
 
@@ -56,8 +56,8 @@ field_byte s at n o b h e p q =
     high n h = rw (div-eq_of_lt h)
 
 -- what was sealed is opened
-module _ (plain_stream password : List ℕ) (choice : Choice) (salt verifier : List ℕ) (z : BiffRecord) (found : zero_of plain_stream ≡ some z)
-    (clean : (walk plain_stream).ends ≡ end.Clean) (back : ReadBack choice password salt z.len (filepass_for choice password salt verifier z.len)) (bytes : Bytes plain_stream) where
+module _ (plain_stream password : List ℕ) (choice : Choice) (salt verifier : List ℕ) (z : BiffRecord) (found : zero_of plain_stream ≡ Some z)
+    (clean : (walk plain_stream).fault ≡ None) (back : ReadBack choice password salt z.len (filepass_for choice password salt verifier z.len)) (bytes : Bytes plain_stream) where
   abbrev whole : List ℕ
   whole = sealed plain_stream password choice salt verifier
 
@@ -83,7 +83,7 @@ module _ (plain_stream password : List ℕ) (choice : Choice) (salt verifier : L
   abbrev opening : (o y : ℕ) → ℕ
   opening o y = in_record (plain_byte (filepass_body whole) password) (record_at (walk whole).records o) o y
 
-  opened_at : (o y : ℕ) → plain_at whole password o y ≡ pick (blanked (some z) o) 0 (opening o y)
+  opened_at : (o y : ℕ) → plain_at whole password o y ≡ pick (blanked (Some z) o) 0 (opening o y)
   unfolding plain_at
   opened_at o y = ap (λ (f : Option BiffRecord). pick (blanked f o) 0 (opening o y)) (first_filepass plain_stream password choice salt verifier z found clean)
 
@@ -119,8 +119,8 @@ module _ (plain_stream password : List ℕ) (choice : Choice) (salt verifier : L
       plain_at_lem whole password o k ∙ back_at o (rw l at k))
 
 -- what was opened is sealed
-module _ (stream password : List ℕ) (choice : Choice) (salt verifier : List ℕ) (f : BiffRecord) (first : filepass (walk stream).records ≡ some f)
-    (others : other_id (walk stream).records ≡ none) (clean : (walk stream).ends ≡ end.Clean) (bytes : Bytes stream)
+module _ (stream password : List ℕ) (choice : Choice) (salt verifier : List ℕ) (f : BiffRecord) (first : filepass (walk stream).records ≡ Some f)
+    (others : other_id (walk stream).records ≡ None) (clean : (walk stream).fault ≡ None) (bytes : Bytes stream)
     (as_written : filepass_body stream ≡ filepass_for choice password salt verifier f.len)
     (back : ReadBack choice password salt f.len (filepass_for choice password salt verifier f.len)) where
   abbrev opened : List ℕ
@@ -135,22 +135,22 @@ module _ (stream password : List ℕ) (choice : Choice) (salt verifier : List �
   within : f.at + 4 + f.len ≤ length stream
   within = record_within stream f.at f.id f.len here.stands
 
-  by_first : (o x : ℕ) → plain_at stream password o x ≡ pick (blanked (some f) o) 0 (in_record (plain_byte (filepass_body stream) password) (record_at (walk stream).records o) o x)
+  by_first : (o x : ℕ) → plain_at stream password o x ≡ pick (blanked (Some f) o) 0 (in_record (plain_byte (filepass_body stream) password) (record_at (walk stream).records o) o x)
   unfolding plain_at
   by_first o x = rw first
 
-  zeroed_byte : (o : ℕ) → o < length stream → blanked (some f) o ≡ true → get_or opened o 0 ≡ 0
+  zeroed_byte : (o : ℕ) → o < length stream → blanked (Some f) o ≡ true → get_or opened o 0 ≡ 0
   zeroed_byte o h b =
       plain_at_lem stream password o h ∙ by_first o (get_or stream o 0)
       ∙ taken 0 (in_record (plain_byte (filepass_body stream) password) (record_at (walk stream).records o) o (get_or stream o 0)) b
 
-  kept_byte : (o : ℕ) → o < length stream → blanked (some f) o ≡ false
+  kept_byte : (o : ℕ) → o < length stream → blanked (Some f) o ≡ false
       → get_or opened o 0 ≡ in_record (plain_byte (filepass_body stream) password) (record_at (walk stream).records o) o (get_or stream o 0)
   kept_byte o h b =
       plain_at_lem stream password o h ∙ by_first o (get_or stream o 0)
       ∙ left 0 (in_record (plain_byte (filepass_body stream) password) (record_at (walk stream).records o) o (get_or stream o 0)) b
 
-  header_byte : (at id len : ℕ) → Reached stream at → step_at stream at ≡ step.Record id len → (o : ℕ) → at ≤ o → o < at + 4 → blanked (some f) o ≡ false
+  header_byte : (at id len : ℕ) → Reached stream at → step_at stream at ≡ step.Record id len → (o : ℕ) → at ≤ o → o < at + 4 → blanked (Some f) o ≡ false
       → get_or opened o 0 ≡ get_or stream o 0
   header_byte at id len w e o h k b =
       let m = record_within stream at id len e in
@@ -170,13 +170,13 @@ module _ (stream password : List ℕ) (choice : Choice) (salt verifier : List �
       let m = within in
       rw (zeroed_byte f.at (omega arith) (blank_id f f.at (omega arith) (omega arith)), zeroed_byte (f.at + 1) (omega arith) (blank_id f (f.at + 1) (omega arith) (omega arith)))
 
-  pub walk_opened : ((walk opened).records ≡ renamed (with_id f.at 0) (walk stream).records) × ((walk opened).ends ≡ (walk stream).ends)
+  pub walk_opened : ((walk opened).records ≡ renamed (with_id f.at 0) (walk stream).records) × ((walk opened).fault ≡ (walk stream).fault)
   walk_opened = walk_with_id stream f there here.stands opened (length_plain stream password) 0 clean zero_there header_byte behind
 
   abbrev the_zero : BiffRecord
   the_zero = record { at = f.at; id = 0; len = f.len }
 
-  blank_there : all_zero (body_of opened (some the_zero)) ≡ true
+  blank_there : all_zero (body_of opened (Some the_zero)) ≡ true
   blank_there =
       let m = within in
       let l = length_plain stream password in
@@ -187,7 +187,7 @@ module _ (stream password : List ℕ) (choice : Choice) (salt verifier : List �
       get_or-take f.len (drop (f.at + 4) opened) i 0 k ∙ get_or-drop (f.at + 4) opened i 0
       ∙ zeroed_byte (f.at + 4 + i) (omega arith) (blank_body f (f.at + 4 + i) (omega arith) (omega arith)))
 
-  pub zero_found : zero_of opened ≡ some the_zero
+  pub zero_found : zero_of opened ≡ Some the_zero
   zero_found = ap (zero_record opened) walk_opened.0 ∙ unfiled stream opened f blank_there 0 (omega arith) first others
 
   pub starts_opened : starts_bof (walk stream).records ≡ true → starts_bof (walk opened).records ≡ true

@@ -1,10 +1,10 @@
 -- The sealed stream: its bytes by place, its walk, which is the plain stream's with a FILEPASS where the zero record stood, and so what Open's questions find in it and
 -- what Open reports of it.
 -- Assumes nothing.
+use Rattle.std.specs.Prelude.{Option, None, Some}
 use mathlib.Core.Path.{◌≡◌, refl, sym, ap, ◌∙◌}
 use mathlib.Core.Bool.{true, false}
 use mathlib.Core.List.{List, [], ◌∷◌, ◌++◌}
-use mathlib.Core.Option.{Option, none, some}
 use Prim.Native.Nat.{ℕ, suc, ◌+◌, ◌-◌, ◌≤◌, ◌<◌}
 use native.Mathlib.Nat.{zero-add, add-zero}
 use native.Mathlib.Omega.{arith}
@@ -17,8 +17,8 @@ use Rattle.laws.proofs.Choice.{taken, left, either, same_or}
 use Rattle.laws.proofs.Offsets.{length_map_at, get_d_map_at}
 use Rattle.binary_office.specs.declared.Step.{Step}
 use Rattle.binary_office.specs.declared.Step.TheVariants as step
-use Rattle.binary_office.specs.declared.WalkEnd.TheVariants as end
-use Rattle.binary_office.specs.Walk.{BiffRecord, step_at, walk, records_end}
+use Rattle.binary_office.specs.declared.BiffRecord.{BiffRecord}
+use Rattle.binary_office.specs.Walk.{step_at, walk, records_end}
 use Rattle.binary_office.proofs.Along.{records_on, records_end_lem, records_fault, end_from_lem}
 use Rattle.binary_office.proofs.Renamed.{renamed}
 use Rattle.binary_office.proofs.Walks.{record_within}
@@ -87,7 +87,7 @@ module _ (plain password : List ℕ) (choice : Choice) (salt verifier : List ℕ
       ∙ ap (λ (i : ℕ). sealed_at plain password choice salt verifier i (get_or plain o 0)) (zero-add o)
 
   -- where there is a zero record
-  module _ (z : BiffRecord) (found : zero_of plain ≡ some z) where
+  module _ (z : BiffRecord) (found : zero_of plain ≡ Some z) where
     abbrev body : List ℕ
     body = filepass_for choice password salt verifier z.len
 
@@ -106,16 +106,16 @@ module _ (plain password : List ℕ) (choice : Choice) (salt verifier : List ℕ
     pub inside : z.at + 4 + z.len ≤ length plain
     inside = record_within plain z.at z.id z.len located.stands
 
-    pub by_found : (o x : ℕ) → sealed_at plain password choice salt verifier o x ≡ pick (blanked (some z) o) (filepass_byte body (some z) o) (through o x)
+    pub by_found : (o x : ℕ) → sealed_at plain password choice salt verifier o x ≡ pick (blanked (Some z) o) (filepass_byte body (Some z) o) (through o x)
     unfolding sealed_at
     by_found o x = rw found
 
     -- a byte of the new FILEPASS, and any other byte
-    pub new_byte : (o x : ℕ) → blanked (some z) o ≡ true → sealed_at plain password choice salt verifier o x ≡ filepass_byte body (some z) o
-    new_byte o x e = by_found o x ∙ taken (filepass_byte body (some z) o) (through o x) e
+    pub new_byte : (o x : ℕ) → blanked (Some z) o ≡ true → sealed_at plain password choice salt verifier o x ≡ filepass_byte body (Some z) o
+    new_byte o x e = by_found o x ∙ taken (filepass_byte body (Some z) o) (through o x) e
 
-    pub old_byte : (o x : ℕ) → blanked (some z) o ≡ false → sealed_at plain password choice salt verifier o x ≡ through o x
-    old_byte o x e = by_found o x ∙ left (filepass_byte body (some z) o) (through o x) e
+    pub old_byte : (o x : ℕ) → blanked (Some z) o ≡ false → sealed_at plain password choice salt verifier o x ≡ through o x
+    old_byte o x e = by_found o x ∙ left (filepass_byte body (Some z) o) (through o x) e
 
     id_byte : (i : ℕ) → i < 2 → get_or whole (z.at + i) 0 ≡ get_or (two 0x002F) i 0
     id_byte i h =
@@ -138,7 +138,7 @@ module _ (plain password : List ℕ) (choice : Choice) (salt verifier : List ℕ
         let a : get_or whole z.at 0 ≡ 0x2F = ap (λ (k : ℕ). get_or whole k 0) (sym (add-zero z.at)) ∙ id_byte 0 (omega arith) in
         rw (a, id_byte 1 (omega arith))
 
-    header_byte : (at id len : ℕ) → Reached plain at → step_at plain at ≡ step.Record id len → (o : ℕ) → at ≤ o → o < at + 4 → blanked (some z) o ≡ false
+    header_byte : (at id len : ℕ) → Reached plain at → step_at plain at ≡ step.Record id len → (o : ℕ) → at ≤ o → o < at + 4 → blanked (Some z) o ≡ false
         → get_or whole o 0 ≡ get_or plain o 0
     header_byte at id len w e o h k b =
         let m = record_within plain at id len e in
@@ -159,8 +159,8 @@ module _ (plain password : List ℕ) (choice : Choice) (salt verifier : List ℕ
         ∙ ap (λ (r : Option BiffRecord). in_record (sealed_byte choice password salt) r o (get_or plain o 0)) (behind_records plain o h).0)
 
     -- the walk
-    module _ (clean : (walk plain).ends ≡ end.Clean) where
-      pub walk_sealed : ((walk whole).records ≡ renamed (with_id z.at 0x002F) (walk plain).records) × ((walk whole).ends ≡ (walk plain).ends)
+    module _ (clean : (walk plain).fault ≡ None) where
+      pub walk_sealed : ((walk whole).records ≡ renamed (with_id z.at 0x002F) (walk plain).records) × ((walk whole).fault ≡ (walk plain).fault)
       walk_sealed = walk_with_id plain z reached located.stands whole length_sealed 0x002F clean new_id header_byte behind_byte
 
       filed : Refiled plain z (walk plain).records
@@ -169,13 +169,13 @@ module _ (plain password : List ℕ) (choice : Choice) (salt verifier : List ℕ
       abbrev the_filepass : BiffRecord
       the_filepass = record { at = z.at; id = 0x002F; len = z.len }
 
-      pub first_filepass : filepass (walk whole).records ≡ some the_filepass
+      pub first_filepass : filepass (walk whole).records ≡ Some the_filepass
       first_filepass = ap filepass walk_sealed.0 ∙ filed.first
 
-      no_others : other_id (walk whole).records ≡ none
+      no_others : other_id (walk whole).records ≡ None
       no_others = ap other_id walk_sealed.0 ∙ filed.others
 
-      booked : starts_bof (walk whole).records ≡ true → none ≡ asked (in_order (walk whole).ends (walk whole).records ++ locked (walk whole).records)
+      booked : starts_bof (walk whole).records ≡ true → None ≡ asked (in_order (walk whole).fault (walk whole).records ++ locked (walk whole).records)
       unfolding asked in_order locked
       booked g =
           past _ (rw (walk_sealed.1, clean) refl) (past _ g (past _ (rw first_filepass refl) (past _ (rw no_others refl) refl)))
@@ -196,13 +196,13 @@ module _ (plain password : List ℕ) (choice : Choice) (salt verifier : List ℕ
             get_or-take z.len (drop (z.at + 4) whole) i 0 k ∙ get_or-drop (z.at + 4) whole i 0 ∙ body_byte (z.at + 4 + i) (omega arith) (omega arith)
             ∙ ap (λ (j : ℕ). get_or body j 0) c)
 
-        pub sealed_passes : starts_bof (walk plain).records ≡ true → none ≡ asked (of_stream whole)
+        pub sealed_passes : starts_bof (walk plain).records ≡ true → None ≡ asked (of_stream whole)
         unfolding of_stream book
         sealed_passes h =
             let starting : starts_bof (walk whole).records ≡ true =
             ap starts_bof walk_sealed.0 ∙ starts_kept plain z located.stands (λ q. no_bof (sym located.id_zero ∙ q)) 0x002F h in
             back.passed ∙ ap (λ (b : List ℕ). asked (lock b)) (sym body_is)
-            ∙ sym (asked_on (in_order (walk whole).ends (walk whole).records ++ locked (walk whole).records) (lock (filepass_body whole)) (booked starting))
+            ∙ sym (asked_on (in_order (walk whole).fault (walk whole).records ++ locked (walk whole).records) (lock (filepass_body whole)) (booked starting))
           where
             no_bof : ◌≡◌ {A = ℕ} 0 0x0809 → ⊥
             no_bof e = omega arith

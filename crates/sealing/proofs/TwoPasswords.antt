@@ -1,24 +1,25 @@
 -- Two sealings of one plain stream. Both have the plain stream's own bytes in headers, clear parts and padding, and both tell what the choice and the records decide; and
 -- questions 1 to 31 are the same for every password that passes the first two, so that only 32 can part them.
 -- Assumes nothing.
+use Rattle.std.specs.Prelude.{Option, None, Some, Ok, Err, Result}
 use mathlib.Core.Path.{◌≡◌, refl, sym, ap, ◌∙◌}
 use mathlib.Core.Bool.{Bool, true, false, not}
 use mathlib.Core.List.{List, [], ◌∷◌, ◌++◌, append_assoc}
-use mathlib.Core.Option.{Option, none, some}
 use Prim.Native.Nat.{ℕ, ◌-◌, ◌≤◌, ◌<◌}
 use native.Mathlib.Omega.{arith}
 use lib.Dec.{eqb}
 use lib.ListN.{length, get_or, drop, get_or-append}
 use Rattle.laws.specs.Choice.{pick}
 use Rattle.sensitive.specs.Utf8.{well_formed}
-use Rattle.binary_office.specs.Walk.{BiffRecord, walk}
+use Rattle.binary_office.specs.declared.BiffRecord.{BiffRecord}
+use Rattle.binary_office.specs.Walk.{walk}
 use Rattle.file_params.specs.declared.Refusal.{Refusal}
 use Rattle.file_params.specs.declared.Refusal.TheVariants.{XorPasswordUnfit}
 use Rattle.file_params.specs.Refusal.{number}
 use Rattle.file_params.specs.Numbers.{numbers}
 use Rattle.file_params.specs.Questions.{Question, scratch_need, ask, asked, lent, in_order}
 use Rattle.file_params.proofs.Tables.{given_passes}
-use Rattle.survey.specs.Survey.{len_of, enciphered_bytes}
+use Rattle.survey.specs.Survey.{enciphered_bytes}
 use Rattle.excel97.specs.declared.Report.{Report}
 use Rattle.excel97.specs.Open.{record_at, in_record, blanked, report}
 use Rattle.excel97.proofs.Answers.{same_lent, decided_by, behind}
@@ -28,9 +29,7 @@ use Rattle.excel97.proofs.SameBounds.{behind_records}
 use Rattle.excel97.proofs.Through.{own_byte}
 use Rattle.sealing.specs.declared.Choice.{Choice}
 use Rattle.sealing.specs.declared.Choice.TheVariants.{Xor, Office97, CryptoApi}
-use Rattle.sealing.specs.declared.Answer.{Answer}
-use Rattle.sealing.specs.declared.Answer.TheVariants.{Sealed, Refused}
-use Rattle.sealing.specs.Seal.{zero_of, admitted, fits, zeroed, takes, of_plain, seal_questions, sealed_byte, sealed, Outcome, outcome_by, outcome, Seals}
+use Rattle.sealing.specs.Seal.{zero_of, admitted, fits, zeroed, takes, of_plain, seal_questions, sealed_byte, sealed, Outcome, outcome_by, outcome, Seals, len_of}
 use Rattle.sealing.specs.Theorems.{expected, SealNumbered, Clear, within_record, in_padding, AlikeSealed, AlikeRefused}
 use Rattle.sealing.proofs.Bodies.{report_for, read_back}
 use Rattle.sealing.proofs.Sealed.{length_sealed, sealed_at_lem, old_byte, reported}
@@ -38,11 +37,11 @@ use Rattle.sealing.proofs.Runs.{HasSealed, has_sealed}
 
 -- one sealing: its report, and its clear bytes
 module _ (plain password : List ℕ) (choice : Choice) (salt verifier scratch output : List ℕ) (x : Report) (scratch₁ output₁ : List ℕ) (hs : length salt ≡ 16)
-    (hv : length verifier ≡ 16) (run : Seals plain password choice salt verifier scratch output (Sealed x) scratch₁ output₁) where
+    (hv : length verifier ≡ 16) (run : Seals plain password choice salt verifier scratch output (Ok x) scratch₁ output₁) where
   ran : HasSealed plain password choice salt verifier scratch output x output₁
   ran = has_sealed plain password choice salt verifier scratch output x scratch₁ output₁ run
 
-  told : (z : BiffRecord) → zero_of plain ≡ some z → x ≡ report_for choice (length (walk plain).records) (length plain) (enciphered_bytes (walk plain).records - z.len)
+  told : (z : BiffRecord) → zero_of plain ≡ Some z → x ≡ report_for choice (length (walk plain).records) (length plain) (enciphered_bytes (walk plain).records - z.len)
   told z found =
       let fitting : fits choice z.len ≡ true = ap (λ (o : Option BiffRecord). fits choice (len_of o)) (sym found) ∙ ran.passed.fitting in
       let back = read_back password salt verifier hs hv choice z.len ran.passed.admits fitting ran.taken in
@@ -99,7 +98,7 @@ all_asked plain p choice scratch output u h =
     ∙ behind XorPasswordUnfit (lending ++ of_plain plain choice) (takes choice p)
 
 -- no refusal of questions 1 to 31 is 32
-not_32 : (plain : List ℕ) (choice : Choice) (scratch output : List ℕ) (r : Refusal) → earlier plain choice scratch output ≡ some r → r ≡ XorPasswordUnfit → ⊥
+not_32 : (plain : List ℕ) (choice : Choice) (scratch output : List ℕ) (r : Refusal) → earlier plain choice scratch output ≡ Some r → r ≡ XorPasswordUnfit → ⊥
 unfolding lent of_plain in_order admitted zeroed
 not_32 plain choice scratch output r e q = never (sym (by_choice choice e) ∙ ap (λ (t : Refusal). not (eqb (number t) 32)) q)
   where
@@ -109,13 +108,13 @@ not_32 plain choice scratch output r e q = never (sym (by_choice choice e) ∙ a
     lending : List Question
     lending = lent scratch_need [] (length plain) (length scratch) (length output)
 
-    by_choice : (c : Choice) → asked (lending ++ of_plain plain c) ≡ some r → not (eqb (number r) 32) ≡ true
+    by_choice : (c : Choice) → asked (lending ++ of_plain plain c) ≡ Some r → not (eqb (number r) 32) ≡ true
     by_choice Xor e = given_passes test (lending ++ of_plain plain Xor) r refl e
     by_choice Office97 e = given_passes test (lending ++ of_plain plain Office97) r refl e
     by_choice (CryptoApi major bits) e = given_passes test (lending ++ of_plain plain (CryptoApi major bits)) r refl e
 
 -- a run, by what they give
-module _ (plain p : List ℕ) (choice : Choice) (salt verifier scratch output : List ℕ) (a : Answer) (scratch₁ output₁ : List ℕ) (u : well_formed p ≡ true) (h : length p ≤ 1024)
+module _ (plain p : List ℕ) (choice : Choice) (salt verifier scratch output : List ℕ) (a : (Result Report Refusal)) (scratch₁ output₁ : List ℕ) (u : well_formed p ≡ true) (h : length p ≤ 1024)
     (run : Seals plain p choice salt verifier scratch output a scratch₁ output₁) where
   abbrev by : Option Refusal
   by = decided (earlier plain choice scratch output) (takes choice p)
@@ -137,50 +136,50 @@ module _ (plain p : List ℕ) (choice : Choice) (salt verifier scratch output : 
   abbrev out : Option Refusal → Bool → Outcome
   out c t = outcome_by plain p choice salt verifier scratch output (decided c t)
 
-  refused_by : (c : Option Refusal) (r : Refusal) → (r ≡ XorPasswordUnfit → ⊥) → Refused r ≡ (out c t).answer → c ≡ some r
+  refused_by : (c : Option Refusal) (r : Refusal) → (r ≡ XorPasswordUnfit → ⊥) → Err r ≡ (out c t).answer → c ≡ Some r
   unfolding pick
-  refused_by none r n e = go t e
+  refused_by None r n e = go t e
     where
-      go : (t : Bool) → Refused r ≡ (out none t).answer → none ≡ some r
+      go : (t : Bool) → Err r ≡ (out None t).answer → None ≡ Some r
       go true e = cc
       go false e = absurd (n (cc))
-  refused_by (some q) r n e = cc
+  refused_by (Some q) r n e = cc
 
-  sealed_by : (c : Option Refusal) (x : Report) → Sealed x ≡ (out c t).answer → (c ≡ none) × (t ≡ true)
+  sealed_by : (c : Option Refusal) (x : Report) → Ok x ≡ (out c t).answer → (c ≡ None) × (t ≡ true)
   unfolding pick
-  sealed_by none x e = (refl, go t e)
+  sealed_by None x e = (refl, go t e)
     where
-      go : (t : Bool) → Sealed x ≡ (out none t).answer → t ≡ true
+      go : (t : Bool) → Ok x ≡ (out None t).answer → t ≡ true
       go true e = refl
       go false e = cc
-  sealed_by (some q) x e = (cc, cc)
+  sealed_by (Some q) x e = (cc, cc)
 
-  last_by : (c : Option Refusal) → ((r : Refusal) → c ≡ some r → r ≡ XorPasswordUnfit → ⊥) → Refused XorPasswordUnfit ≡ (out c t).answer → t ≡ false
+  last_by : (c : Option Refusal) → ((r : Refusal) → c ≡ Some r → r ≡ XorPasswordUnfit → ⊥) → Err XorPasswordUnfit ≡ (out c t).answer → t ≡ false
   unfolding pick
-  last_by none n e = go t e
+  last_by None n e = go t e
     where
-      go : (t : Bool) → Refused XorPasswordUnfit ≡ (out none t).answer → t ≡ false
+      go : (t : Bool) → Err XorPasswordUnfit ≡ (out None t).answer → t ≡ false
       go true e = cc
       go false e = refl
-  last_by (some q) n e = absurd (n q refl (cc))
+  last_by (Some q) n e = absurd (n q refl (cc))
 
   scratch_by_lem : (c : Option Refusal) → (out c t).scratch ≡ (out c true).scratch
   unfolding pick
-  scratch_by_lem none = go t
+  scratch_by_lem None = go t
     where
-      go : (t : Bool) → (out none t).scratch ≡ (out none true).scratch
+      go : (t : Bool) → (out None t).scratch ≡ (out None true).scratch
       go true = refl
       go false = refl
-  scratch_by_lem (some q) = refl
+  scratch_by_lem (Some q) = refl
 
-  output_by : (c : Option Refusal) (r : Refusal) → Refused r ≡ (out c t).answer → (out c t).output ≡ output
+  output_by : (c : Option Refusal) (r : Refusal) → Err r ≡ (out c t).answer → (out c t).output ≡ output
   unfolding pick
-  output_by none r e = go t e
+  output_by None r e = go t e
     where
-      go : (t : Bool) → Refused r ≡ (out none t).answer → (out none t).output ≡ output
+      go : (t : Bool) → Err r ≡ (out None t).answer → (out None t).output ≡ output
       go true e = cc
       go false e = refl
-  output_by (some q) r e = refl
+  output_by (Some q) r e = refl
 
 pub alike_refused : AlikeRefused
 unfolding pick
@@ -190,7 +189,7 @@ alike_refused =
           let c = earlier plain choice scratch output in
           let ea = given_answer plain p choice salt verifier scratch output a scratch₁ output₁ u h one in
           let eb = given_answer plain q choice salt' verifier' scratch output b scratch₂ output₂ v k other in
-          let answer_q : Option Refusal → Bool → Answer = λ d t. (outcome_by plain q choice salt' verifier' scratch output (decided d t)).answer in
+          let answer_q : Option Refusal → Bool → (Result Report Refusal) = λ d t. (outcome_by plain q choice salt' verifier' scratch output (decided d t)).answer in
           record {
             same_refusal = λ r n e. eb ∙ ap (λ (d : Option Refusal). answer_q d (takes choice q))
                 (refused_by plain p choice salt verifier scratch output (takes choice p) c r n (sym e ∙ ea));
@@ -218,8 +217,8 @@ alike_refused =
   where
     same_wipe : (plain p q : List ℕ) (choice : Choice) (salt verifier salt' verifier' scratch output : List ℕ) (c : Option Refusal)
         → (outcome_by plain p choice salt verifier scratch output (decided c true)).scratch ≡ (outcome_by plain q choice salt' verifier' scratch output (decided c true)).scratch
-    same_wipe plain p q choice salt verifier salt' verifier' scratch output none = refl
-    same_wipe plain p q choice salt verifier salt' verifier' scratch output (some r) = refl
+    same_wipe plain p q choice salt verifier salt' verifier' scratch output None = refl
+    same_wipe plain p q choice salt verifier salt' verifier' scratch output (Some r) = refl
 
 -- the numbers of the checks
 pub seal_numbered : SealNumbered

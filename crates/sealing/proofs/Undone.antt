@@ -1,10 +1,10 @@
 -- Sealing a byte and opening it undo each other: exclusive-or with one keystream byte twice, and under XOR the rotation and the array back and forth. An array of an XOR
 -- password is of bytes, and so is its exclusive-or with a byte.
 -- Assumes nothing.
+use Rattle.std.specs.Prelude.{Option, None, Some}
 use mathlib.Core.Path.{◌≡◌, refl}
 use mathlib.Core.Bool.{true}
 use mathlib.Core.List.{List, [], ◌∷◌}
-use mathlib.Core.Option.{Option, none, some}
 use Prim.Native.Nat.{ℕ, zero, suc, ◌+◌, ◌-◌, ◌*◌, ◌<◌}
 use native.Mathlib.Omega.{arith}
 use borrow.Author.Tests.{eq-eqb, eqb-true}
@@ -15,7 +15,8 @@ use Rattle.laws.proofs.Xor.{xor_twice}
 use Rattle.sensitive.specs.Ansi.{ansi}
 use Rattle.xor_obfuscation.specs.Xor.{xor_key}
 use Rattle.xor_obfuscation.proofs.Inverse.{deciphered_enciphered, enciphered_deciphered, array_fits}
-use Rattle.binary_office.specs.Walk.{BiffRecord, clear_len, all_zero}
+use Rattle.binary_office.specs.declared.BiffRecord.{BiffRecord}
+use Rattle.binary_office.specs.Walk.{clear_len, all_zero}
 use Rattle.block_keys.specs.declared.Kind.TheVariants as kind
 use Rattle.excel97.specs.Open.{keystream, array_of, xor_byte}
 use Rattle.sealing.specs.declared.Choice.{Choice}
@@ -33,8 +34,8 @@ array_bytes : (password : List ℕ) (i : ℕ) → get_or (array_of (ansi passwor
 array_bytes password i = go (ansi password) refl
   where
     go : (o : Option (List ℕ)) → ansi password ≡ o → get_or (array_of o) i 0 < 256
-    go none e = zeros_fit 16 i
-    go (some p) e = array_fits p (xor_key p) i (ansi_fits password p e)
+    go None e = zeros_fit 16 i
+    go (Some p) e = array_fits p (xor_key p) i (ansi_fits password p e)
 
 module _ (choice : Choice) (password salt : List ℕ) (r : BiffRecord) (o x : ℕ) (h : x < 256) where
   pub opened_sealed : opened_byte choice password salt r o (sealed_byte choice password salt r o x) ≡ x

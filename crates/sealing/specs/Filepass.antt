@@ -1,8 +1,7 @@
 -- The body of a FILEPASS that sealing writes: MS-XLS 2.4.117 (FilePass), MS-OFFCRYPTO 2.3.7 (XOR), 2.3.6.1 (1.1) and 2.3.5.1 with 2.3.2 and 2.3.3 (CryptoAPI), each
 -- field in its place, with the values that document 02 gives (T-07).
 -- Assumes nothing.
-use Rattle.std.specs.Prelude.{ℕ, ◌-◌, ◌/◌, ◌%◌, ◌^◌, List, [], ◌∷◌, ◌++◌}
-use Rattle.std.proofs.Math.Option.{Option, none, some}
+use Rattle.std.specs.Prelude.{ℕ, ◌-◌, ◌/◌, ◌%◌, ◌^◌, List, [], ◌∷◌, ◌++◌, Option, None, Some}
 use Rattle.word.specs.Word.{le_bytes}
 use Rattle.sensitive.specs.Ansi.{ansi}
 use Rattle.xor_obfuscation.specs.Xor.{password_verifier, xor_key}
@@ -22,8 +21,8 @@ four x = le_bytes x
 
 -- the bytes of an XOR password
 abbrev pub characters : Option (List ℕ) → List ℕ
-characters none = []
-characters (some p) = p
+characters None = []
+characters (Some p) = p
 
 -- 2.3.7: type 0, then the key and the verification bytes
 unfoldable pub xor_body : (p : List ℕ) → List ℕ

@@ -1,33 +1,31 @@
 -- Sealing: document 02, T-07, with Open's definitions where it shares them. The questions are a table, and the sealed stream is given byte by byte.
 -- Assumes nothing.
-use Rattle.std.specs.Prelude.{◌≡◌, ℕ, ◌+◌, ◌-◌, ◌%◌, Bool, true, ◌&&◌, List, [], ◌∷◌, ◌++◌, eqb, leb, ltb, length, get_or, drop}
-use Rattle.std.proofs.Math.Option.{Option, none, some}
+use Rattle.excel97.specs.declared.Report.{Report}
+use Rattle.std.specs.Prelude.{◌≡◌, ℕ, ◌+◌, ◌-◌, ◌%◌, Bool, true, ◌&&◌, List, [], ◌∷◌, ◌++◌, eqb, leb, ltb, length, get_or, drop, Option, None, Some, Ok, Err, Result, is_some}
 use Rattle.std.specs.Int.Bits.{bit_xor}
 use Rattle.laws.specs.Choice.{pick, within}
 use Rattle.laws.specs.Offsets.{map_at}
 use Rattle.sensitive.specs.Ansi.{ansi}
 use Rattle.xor_obfuscation.specs.declared.Way.TheVariants.{Encrypt}
-use Rattle.binary_office.specs.Walk.{BiffRecord, walk, never_encrypted, all_zero}
+use Rattle.binary_office.specs.declared.BiffRecord.{BiffRecord}
+use Rattle.binary_office.specs.Walk.{walk, never_encrypted, all_zero}
 use Rattle.file_params.specs.declared.Refusal.{Refusal}
 use Rattle.file_params.specs.declared.Refusal.TheVariants.{UnsupportedEncryptionVersion, EncryptionHeaderKeySize, ZeroRecordMissing, ZeroRecordLength, XorPasswordUnfit}
 use Rattle.file_params.specs.Refusal.{number}
-use Rattle.file_params.specs.Questions.{Question, scratch_need, ask, asked, lent, in_order, is_some, body_of}
+use Rattle.file_params.specs.Questions.{Question, scratch_need, ask, asked, lent, in_order, body_of}
 use Rattle.block_keys.specs.declared.Kind.TheVariants as kind
-use Rattle.survey.specs.Survey.{len_of}
 use Rattle.excel97.specs.Open.{keystream, array_of, xor_byte, record_at, in_record, blanked, report, wiped}
 use Rattle.sealing.specs.declared.Choice.{Choice}
 use Rattle.sealing.specs.declared.Choice.TheVariants.{Xor, Office97, CryptoApi}
-use Rattle.sealing.specs.declared.Answer.{Answer}
-use Rattle.sealing.specs.declared.Answer.TheVariants.{Sealed, Refused}
 use Rattle.sealing.specs.Filepass.{two, filepass_for}
 
 -- "a zero record (id 0000, body all zero) with only the seven ids before it", none of them a FILEPASS
 unfoldable pub zero_record : (plain : List ℕ) → List BiffRecord → Option BiffRecord
-zero_record plain [] = none
+zero_record plain [] = None
 zero_record plain (r ∷ rs) =
-    pick (eqb r.id 0x002F) none
+    pick (eqb r.id 0x002F) None
     (pick (never_encrypted r.id) (zero_record plain rs)
-    (pick (eqb r.id 0 && all_zero (body_of plain (some r))) (some r) none))
+    (pick (eqb r.id 0 && all_zero (body_of plain (Some r))) (Some r) None))
 
 abbrev pub zero_of : (plain : List ℕ) → Option BiffRecord
 zero_of plain = zero_record plain (walk plain).records
@@ -47,6 +45,11 @@ fits Xor len = eqb len 6
 fits Office97 len = eqb len 54
 fits (CryptoApi major bits) len = within 106 1098 len
 
+-- the length of a record's body
+abbrev pub len_of : Option BiffRecord → ℕ
+len_of None = 0
+len_of (Some r) = r.len
+
 -- of the zero record: "30 no such zero record, or a FILEPASS before it; 31 body length unfit (length)"
 unfoldable pub zeroed : Choice → Option BiffRecord → List Question
 zeroed choice zero =
@@ -63,7 +66,7 @@ takes (CryptoApi major bits) password = true
 -- of the plain stream and the choice alone
 unfoldable pub of_plain : (plain : List ℕ) → Choice → List Question
 of_plain plain choice =
-    in_order (walk plain).ends (walk plain).records  -- 6, 7
+    in_order (walk plain).fault (walk plain).records  -- 6, 7
     ++ (admitted choice  -- 13, 23
     ++ zeroed choice (zero_of plain))  -- 30, 31
 
@@ -82,8 +85,8 @@ sealed_byte (CryptoApi major bits) password salt r offset x = bit_xor x (keystre
 
 -- the new FILEPASS's byte at an offset of its id or its body: id 002F, the body, and between them the length as it was
 abbrev pub filepass_byte : (body : List ℕ) → Option BiffRecord → (offset : ℕ) → ℕ
-filepass_byte body none offset = 0
-filepass_byte body (some r) offset = pick (ltb offset (r.at + 2)) (get_or (two 0x002F) (offset - r.at) 0) (get_or body (offset - (r.at + 4)) 0)
+filepass_byte body None offset = 0
+filepass_byte body (Some r) offset = pick (ltb offset (r.at + 2)) (get_or (two 0x002F) (offset - r.at) 0) (get_or body (offset - (r.at + 4)) 0)
 
 -- the sealed byte at an offset, whose byte in the plain stream is x: headers, clear parts and what lies in no record are the plain stream's own
 unfoldable pub sealed_at : (plain password : List ℕ) → Choice → (salt verifier : List ℕ) → (offset x : ℕ) → ℕ
@@ -97,27 +100,27 @@ sealed plain password choice salt verifier = map_at (sealed_at plain password ch
 
 -- the outcome: the answer, and scratch and output at exit
 pub record Outcome : Type 0 where
-  pub answer : Answer
+  pub answer : Result Report Refusal
   pub scratch : List ℕ
   pub output : List ℕ
 
 -- "Success reports what opening the sealed stream would; buffers follow Open's rules."
 abbrev pub outcome_by : (plain password : List ℕ) → Choice → (salt verifier scratch output : List ℕ) → Option Refusal → Outcome
-outcome_by plain password choice salt verifier scratch output none =
+outcome_by plain password choice salt verifier scratch output None =
     record {
-      answer = Sealed (report (sealed plain password choice salt verifier));
+      answer = Ok (report (sealed plain password choice salt verifier));
       scratch = wiped scratch_need scratch;
       output = sealed plain password choice salt verifier ++ drop (length plain) output;
     }
-outcome_by plain password choice salt verifier scratch output (some r) =
-    record { answer = Refused r; scratch = pick (leb (number r) 5) scratch (wiped scratch_need scratch); output = output }
+outcome_by plain password choice salt verifier scratch output (Some r) =
+    record { answer = Err r; scratch = pick (leb (number r) 5) scratch (wiped scratch_need scratch); output = output }
 
 unfoldable pub outcome : (plain password : List ℕ) → Choice → (salt verifier scratch output : List ℕ) → Outcome
 outcome plain password choice salt verifier scratch output =
     outcome_by plain password choice salt verifier scratch output (asked (seal_questions plain password choice scratch output))
 
 -- what `seal` promises
-pub record Seals (plain password : List ℕ) (choice : Choice) (salt verifier scratch output : List ℕ) (answer : Answer) (scratch' output' : List ℕ) : Type 0 where
+pub record Seals (plain password : List ℕ) (choice : Choice) (salt verifier scratch output : List ℕ) (answer : Result Report Refusal) (scratch' output' : List ℕ) : Type 0 where
   pub answered : answer ≡ (outcome plain password choice salt verifier scratch output).answer
   pub scratch_left : scratch' ≡ (outcome plain password choice salt verifier scratch output).scratch
   pub output_left : output' ≡ (outcome plain password choice salt verifier scratch output).output

@@ -1,20 +1,21 @@
 -- What the private functions of sealing answer, in terms of its definitions. Nothing that is promised outside rests on this file.
 -- Assumes nothing.
-use Rattle.std.specs.Prelude.{◌≡◌, ℕ, ◌+◌, ◌-◌, ◌≤◌, ◌<◌, true, false, List, [], ◌∷◌, ◌++◌, length, get_or, take, drop, replicate}
-use Rattle.std.proofs.Math.Option.{Option, none, some}
+use Rattle.excel97.specs.declared.Report.{Report}
+use Rattle.std.specs.Prelude.{◌≡◌, ℕ, ◌+◌, ◌-◌, ◌≤◌, ◌<◌, true, false, List, [], ◌∷◌, ◌++◌, length, get_or, take, drop, replicate, Option, None, Some, Result}
 use Rattle.laws.proofs.Written.{Written}
 use Rattle.sensitive.specs.Utf8.{well_formed}
-use Rattle.binary_office.specs.Walk.{BiffRecord, walk, zero_bytes}
+use Rattle.binary_office.specs.declared.BiffRecord.{BiffRecord}
+use Rattle.binary_office.specs.Walk.{walk, zero_bytes}
 use Rattle.file_params.specs.declared.Refusal.{Refusal}
 use Rattle.file_params.specs.declared.Refusal.TheVariants.{XorPasswordUnfit}
 use Rattle.file_params.specs.Questions.{ask, asked}
 use Rattle.block_keys.specs.declared.Schedule.{Schedule}
 use Rattle.block_keys.specs.BlockKeys.{encrypted_verifier, encrypted_verifier_hash, started_blocks, digest_len}
-use Rattle.survey.specs.Survey.{enciphered_bytes}
+use Rattle.survey.specs.declared.Counts.{Counts}
+use Rattle.survey.specs.Survey.{counts_of}
 use Rattle.excel97.specs.Open.{blanked}
 use Rattle.excel97.specs.Steps.{through_at, rc4_at}
 use Rattle.sealing.specs.declared.Choice.{Choice}
-use Rattle.sealing.specs.declared.Answer.{Answer}
 use Rattle.sealing.specs.declared.Enciphered.{Enciphered}
 use Rattle.sealing.specs.Filepass.{two, four, header_fields, header_len}
 use Rattle.sealing.specs.Seal.{zero_of, of_plain, takes, outcome_by}
@@ -44,7 +45,7 @@ pub record Room (plain output : List ℕ) (at len : ℕ) : Type 0 where
 
 -- the record at an offset
 abbrev pub at_place : (at len : ℕ) → Option BiffRecord
-at_place at len = some (record { at = at; id = 0; len = len })
+at_place at len = Some (record { at = at; id = 0; len = len })
 
 -- what sealing leaves in an output: the records put through a function, and over them the new FILEPASS's id and body
 pub record Locks (plain : List ℕ) (at len : ℕ) (f : BiffRecord → ℕ → ℕ → ℕ) (body d d' : List ℕ) : Type 0 where
@@ -69,12 +70,11 @@ pub record LocksRc4 (plain : List ℕ) (at len : ℕ) (s : Schedule) (body scrat
   pub scratch_left : scratch' ≡ replicate 64 0 ++ drop 64 scratch
 
 -- a plain stream whose questions up to 31 are passed, with its counts and its zero record
-pub record Ready (plain : List ℕ) (choice : Choice) (password scratch output : List ℕ) (records enciphered at len : ℕ) : Type 0 where
-  pub passed : none ≡ asked (of_plain plain choice)
-  pub found : zero_of plain ≡ at_place at len
+pub record Ready (plain : List ℕ) (choice : Choice) (password scratch output : List ℕ) (counts : Counts) (zero : BiffRecord) : Type 0 where
+  pub passed : None ≡ asked (of_plain plain choice)
+  pub found : zero_of plain ≡ Some zero
   pub room : length plain ≤ length output
-  pub counted : records ≡ length (walk plain).records
-  pub summed : enciphered ≡ enciphered_bytes (walk plain).records
+  pub counted : counts ≡ counts_of (walk plain)
   pub password_well_formed : well_formed password ≡ true
   pub enough : 64 ≤ length scratch
 
@@ -83,7 +83,7 @@ abbrev pub later_refusal : (plain password : List ℕ) → Choice → Option Ref
 later_refusal plain password choice = asked (of_plain plain choice ++ (ask (takes choice password) XorPasswordUnfit ∷ []))
 
 -- what is settled once questions 1 to 5 are passed; of the scratch, only the first 64 bytes change
-pub record Settles (plain password : List ℕ) (choice : Choice) (salt verifier scratch output : List ℕ) (answer : Answer) (scratch' output' : List ℕ) : Type 0 where
+pub record Settles (plain password : List ℕ) (choice : Choice) (salt verifier scratch output : List ℕ) (answer : Result Report Refusal) (scratch' output' : List ℕ) : Type 0 where
   pub answered : answer ≡ (outcome_by plain password choice salt verifier scratch output (later_refusal plain password choice)).answer
   pub same : length scratch' ≡ length scratch
   pub kept : drop 64 scratch' ≡ drop 64 scratch

@@ -1,116 +1,99 @@
 // Sealing: a plain workbook stream put under a password, with the lock in its zero record, as opening leaves one where
-// FILEPASS stood. Request T-07 of document 02; the Rust source only opens. The questions, the walk, the block loop and the record loop are Open's.
+// FILEPASS stood. Request T-07 of document 02; the Rust source only opens. The questions, the walk, the block loop and
+// the record loop are Open's.
 #![tactic(auto)]
 
-ghost use Rattle.std.specs.Prelude.{◌≡◌, true, false, ◌&&◌, ◌++◌, ◌+◌, ◌≤◌, eqb, length};
-ghost use Rattle.std.proofs.Math.Option.{none, some};
+ghost use Rattle.std.specs.Prelude.{◌≡◌, ◌==◌, true, false, ◌&&◌, ◌++◌, ◌+◌, ◌≤◌, eqb, length, None, Some};
+ghost use Rattle.std.specs.List.{list_all};
 ghost use Rattle.laws.specs.Choice.{pick};
 ghost use Rattle.sensitive.specs.Utf8.{well_formed};
 ghost use Rattle.xor_obfuscation.specs.declared.Way.TheVariants.{Encrypt};
 ghost use Rattle.binary_office.specs.Walk.{walk, all_zero, zero_bytes};
-ghost use Rattle.file_params.specs.Questions.{asked, in_order, body_of};
+ghost use Rattle.file_params.specs.Questions.{asked, unless, in_order, body_of};
 ghost use Rattle.block_keys.specs.declared.Kind.TheVariants as family;
 ghost use Rattle.block_keys.specs.BlockKeys.{schedule_of};
-ghost use Rattle.survey.specs.Checked.{checked_of};
-ghost use Rattle.survey.specs.Steps.{found_of};
 ghost use Rattle.excel97.specs.Open.{xor_byte};
 ghost use Rattle.sealing.specs.Filepass.{office97_body, crypto_api_body};
 ghost use Rattle.sealing.specs.Seal.{zero_of, admitted, fits, Seals};
 ghost use Rattle.sealing.specs.Steps.{Put, xor_fields, office97_fields, crypto_api_head, crypto_api_fields, Room, Locks, Enciphers, LocksRc4, Ready, Settles};
 
+use binary_office::BiffRecord;
+use excel97::{Lock, Report, XorLock};
+use file_params::Refusal;
+use survey::Counts;
+use xor_obfuscation::Way;
+
 // The lock that a stream is sealed under; CryptoAPI with its major version and its key size.
-#[derive(Clone, Copy)]
+#[derive(Clone, Copy, Debug, PartialEq, Eq)]
 pub enum Choice {
     Xor,
     Office97,
     CryptoApi(u16, u32),
 }
 
-// What came of sealing a stream: what opening it will report, or a refusal.
+// A sealing that is asked for: the plain stream, the password, and the lock with its salt and its plain verifier.
+// Not Debug, as it holds a password.
 #[derive(Clone, Copy)]
-pub enum Answer {
-    Sealed(excel97::Report),
-    Refused(file_params::Refusal),
+struct Job<'a> {
+    plain: &'a [u8],
+    password: &'a [u8],
+    choice: Choice,
+    salt: [u8; 16],
+    verifier: [u8; 16],
 }
 
 // Asks questions 13 and 23 of a choice.
-fn check_choice(choice: Choice) -> survey::Checked
-    ensures { result ≡ checked_of (asked (admitted choice)) }
+fn check_choice(choice: Choice) -> Result<(), Refusal>
+    ensures { result ≡ unless tt (asked (admitted choice)) }
 {
-    match choice {
-        Choice::Xor => survey::Checked::Fine,
-        Choice::Office97 => survey::Checked::Fine,
-        Choice::CryptoApi(major, bits) => {
-            if major < 2 {
-                return survey::Checked::Refused(file_params::Refusal::UnsupportedEncryptionVersion(
-                    major, 2,
-                ));
-            }
-            if 4 < major {
-                return survey::Checked::Refused(file_params::Refusal::UnsupportedEncryptionVersion(
-                    major, 2,
-                ));
-            }
-            if !limits::key_size_stated(bits) {
-                return survey::Checked::Refused(file_params::Refusal::EncryptionHeaderKeySize(
-                    bits,
-                ));
-            }
-            survey::Checked::Fine
+    if let Choice::CryptoApi(major, bits) = choice {
+        if !(2..=4).contains(&major) {
+            return Err(Refusal::UnsupportedEncryptionVersion(major, 2));
+        }
+        if !limits::key_size_stated(bits) {
+            return Err(Refusal::EncryptionHeaderKeySize(bits));
         }
     }
+    Ok(())
 }
 
 // Whether all bytes of a body are zero.
 fn all_zero(body: &[u8]) -> bool
-    ensures { result ≡ all_zero body.now }
+    ensures { result ≡ list_all (λ b. b == 0) body.now }
 {
-    let mut i = 0;
-    while i < body.len() {
-        if body[i] != 0 {
-            return false;
-        }
-        i += 1;
-    }
-    true
+    body.iter().all(|b| *b == 0)
 }
 
-// The record at an offset, if it is a zero record.
-fn zero_at(plain: &[u8], at: usize, id: u16, len: u16) -> survey::Found
-    requires { at + 4 + len ≤ length plain.now }
-    ensures { result ≡ found_of (pick (eqb id 0 && all_zero (body_of plain.now (some (record { at = at; id = id; len = len })))) (some (record { at = at; id = id; len = len })) none) }
+// A record, if it is a zero record.
+fn zero_at(plain: &[u8], at: BiffRecord) -> Option<BiffRecord>
+    requires { at.at + 4 + at.len ≤ length plain.now }
+    ensures { result ≡ pick (eqb at.id 0 && all_zero (body_of plain.now (Some at))) (Some at) None }
 {
-    let start = at + 4;
-    let end = start + (len as usize);
-    if id != 0 {
-        return survey::Found::Nothing;
+    let start = at.at + 4;
+    let end = start + (at.len as usize);
+    if (at.id == 0) & all_zero(&plain[start..end]) {
+        Some(at)
+    } else {
+        None
     }
-    if !all_zero(&plain[start..end]) {
-        return survey::Found::Nothing;
-    }
-    survey::Found::At(at, len)
 }
 
 // Where the zero record is: the first record whose id is not one of the seven, with no FILEPASS before it.
-fn find_zero(plain: &[u8]) -> survey::Found
-    ensures { result ≡ found_of (zero_of plain.now) }
+fn find_zero(plain: &[u8]) -> Option<BiffRecord>
+    ensures { result ≡ zero_of plain.now }
 {
-    let mut at: usize = 0;
-    loop {
-        match binary_office::step_at(plain, at) {
-            binary_office::Step::Record(id, len) => {
-                if id == 0x002F {
-                    return survey::Found::Nothing;
-                }
-                if !binary_office::never_encrypted(id) {
-                    return zero_at(plain, at, id, len);
-                }
-                at = at + 4 + (len as usize);
-            }
-            binary_office::Step::Fault(_) => return survey::Found::Nothing,
-            binary_office::Step::End => return survey::Found::Nothing,
+    for record in binary_office::biff_records(plain, 0) {
+        let Ok(next) = record else {
+            return None;
+        };
+        if next.id == 0x002F {
+            return None;
+        }
+        if !binary_office::never_encrypted(next.id) {
+            return zero_at(plain, next);
         }
     }
+    None
 }
 
 // Whether the body of a zero record has a length that the lock wants.
@@ -129,11 +112,7 @@ fn put(bytes: &[u8], dst: &mut [u8], at: usize)
     requires { at + length bytes.now ≤ length dst.old }
     ensures { Put bytes.now at dst.old dst.new }
 {
-    let mut i = 0;
-    while i < bytes.len() {
-        dst[at + i] = bytes[i];
-        i += 1;
-    }
+    dst[at..at + bytes.len()].copy_from_slice(bytes);
 }
 
 // Puts so many zeros into dst, from an offset on.
@@ -141,25 +120,16 @@ fn put_zeros(n: usize, dst: &mut [u8], at: usize)
     requires { at + n ≤ length dst.old }
     ensures { Put (zero_bytes n) at dst.old dst.new }
 {
-    let mut i = 0;
-    while i < n {
-        dst[at + i] = 0;
-        i += 1;
-    }
+    dst[at..at + n].fill(0);
 }
 
 // The body of an XOR FILEPASS: the type, the key and the verifier.
 fn xor_body(key: u16, verifier: u16) -> [u8; 6]
     ensures { result ≡ xor_fields key verifier }
 {
-    [
-        0,
-        0,
-        (key % 256) as u8,
-        (key / 256 % 256) as u8,
-        (verifier % 256) as u8,
-        (verifier / 256 % 256) as u8,
-    ]
+    let k = key.to_le_bytes();
+    let v = verifier.to_le_bytes();
+    [0, 0, k[0], k[1], v[0], v[1]]
 }
 
 // The fields of a CryptoAPI FILEPASS before the provider's name: the type, the version, the flags, the header's size, and
@@ -167,57 +137,18 @@ fn xor_body(key: u16, verifier: u16) -> [u8; 6]
 fn crypto_api_head(major: u16, bits: u32, size: u32) -> [u8; 46]
     ensures { result ≡ crypto_api_head major bits size }
 {
+    let m = major.to_le_bytes();
+    let s = word::to_le_bytes(size);
+    let b = word::to_le_bytes(bits);
     [
-        1,
-        0,
-        (major % 256) as u8,
-        (major / 256 % 256) as u8,
-        2,
-        0,
-        0x0C,
-        0,
-        0,
-        0,
-        (size % 256) as u8,
-        ((size >> 8) % 256) as u8,
-        ((size >> 16) % 256) as u8,
-        ((size >> 24) % 256) as u8,
-        0x0C,
-        0,
-        0,
-        0,
-        0,
-        0,
-        0,
-        0,
-        0x01,
-        0x68,
-        0,
-        0,
-        0x04,
-        0x80,
-        0,
-        0,
-        (bits % 256) as u8,
-        ((bits >> 8) % 256) as u8,
-        ((bits >> 16) % 256) as u8,
-        ((bits >> 24) % 256) as u8,
-        1,
-        0,
-        0,
-        0,
-        0,
-        0,
-        0,
-        0,
-        0,
-        0,
-        0,
-        0,
+        1, 0, m[0], m[1], 2, 0, 0x0C, 0, 0, 0, s[0], s[1], s[2], s[3], 0x0C, 0, 0, 0, 0, 0, 0, 0,
+        0x01, 0x68, 0, 0, 0x04, 0x80, 0, 0, b[0], b[1], b[2], b[3], 1, 0, 0, 0, 0, 0, 0, 0, 0, 0,
+        0, 0,
     ]
 }
 
-// Puts a 1.1 FILEPASS body into dst, from an offset on.
+// Puts a 1.1 FILEPASS body into dst, from an offset on. Kept beside put_crypto_api: the bodies share the salt and the
+// verifier alone, at other places.
 fn put_office97(salt: [u8; 16], encrypted: block_keys::EncryptedVerifier, dst: &mut [u8], at: usize)
     requires { at + 54 ≤ length dst.old }
     ensures { Put (office97_fields salt encrypted.verifier encrypted.hash) at dst.old dst.new }
@@ -259,122 +190,101 @@ fn put_crypto_api(
 }
 
 // Seals a stream under XOR, in the zero record at an offset.
-fn lock_xor(plain: &[u8], at: usize, lock: excel97::XorLock, output: &mut [u8])
+fn lock_xor(plain: &[u8], at: usize, lock: XorLock, output: &mut [u8])
     requires { Room plain.now output.old at 6 }
     ensures { Locks plain.now at 6 (xor_byte Encrypt lock.array) (xor_fields lock.key lock.verifier) output.old output.new }
 {
     let array = lock.array;
-    excel97::apply_xor(xor_obfuscation::Way::Encrypt, plain, &array, output);
+    excel97::apply_xor(Way::Encrypt, plain, &array, output);
     let body = xor_body(lock.key, lock.verifier);
     put(&[0x2Fu8, 0], output, at);
     put(&body, output, at + 4);
 }
 
 // A stream that was put through RC4: the enciphered verifier and its digest, and how many block keys were derived.
-#[derive(Clone, Copy)]
+#[derive(Clone, Copy, Debug, PartialEq, Eq)]
 struct Enciphered {
     encrypted: block_keys::EncryptedVerifier,
     keys: usize,
 }
 
-// Puts a stream through RC4 under a password, and enciphers the verifier and its digest.
+// Puts the stream through RC4 under the password, and enciphers the verifier and its digest.
 fn encipher(
+    job: Job<'_>,
     kind: block_keys::Kind,
     bits: u32,
-    plain: &[u8],
-    password: &[u8],
-    salt: [u8; 16],
-    verifier: [u8; 16],
     scratch: &mut [u8],
     output: &mut [u8],
 ) -> Enciphered
-    requires { (well_formed password.now ≡ true) × (64 ≤ length scratch.old) × (length plain.now ≤ length output.old) }
-    ensures { Enciphers (schedule_of kind bits salt password.now) plain.now verifier scratch.old output.old result scratch.new output.new }
+    requires { (well_formed job.password.now ≡ true) × (64 ≤ length scratch.old) × (length job.plain.now ≤ length output.old) }
+    ensures { Enciphers (schedule_of kind bits job.entry.salt job.entry.password.now) job.entry.plain.now job.entry.verifier scratch.old output.old result scratch.new output.new }
 {
-    let scheduled = block_keys::make_schedule(kind, bits, salt, password, scratch);
-    let schedule = scheduled.schedule;
-    let encrypted = block_keys::encrypt_verifier(schedule, verifier);
-    let keys = excel97::apply_rc4(plain, schedule, output);
+    let schedule = block_keys::make_schedule(kind, bits, job.salt, job.password, scratch).unwrap();
+    let encrypted = block_keys::encrypt_verifier(schedule, job.verifier);
+    let keys = excel97::apply_rc4(job.plain, schedule, output);
     Enciphered {
         encrypted,
         keys: 1 + keys,
     }
 }
 
-// Seals a stream under 1.1, in the zero record at an offset. Returns how many block keys were derived.
-fn lock_office97(
-    plain: &[u8],
-    at: usize,
-    password: &[u8],
-    salt: [u8; 16],
-    verifier: [u8; 16],
-    scratch: &mut [u8],
-    output: &mut [u8],
-) -> usize
-    requires { Room plain.now output.old at 54 × (well_formed password.now ≡ true) × (64 ≤ length scratch.old) }
-    ensures { LocksRc4 plain.now at 54 (schedule_of family.Office97 40 salt password.now) (office97_body (schedule_of family.Office97 40 salt password.now) salt verifier) scratch.old output.old result scratch.new output.new }
+// Seals a stream under 1.1, in the zero record at an offset. Returns how many block keys were derived. Kept beside
+// lock_crypto_api: what the two share is encipher, and one function would take both bodies' fields and switch on them.
+fn lock_office97(job: Job<'_>, at: usize, scratch: &mut [u8], output: &mut [u8]) -> usize
+    requires { Room job.plain.now output.old at 54 × (well_formed job.password.now ≡ true) × (64 ≤ length scratch.old) }
+    ensures { LocksRc4 job.entry.plain.now at 54 (schedule_of family.Office97 40 job.entry.salt job.entry.password.now) (office97_body (schedule_of family.Office97 40 job.entry.salt job.entry.password.now) job.entry.salt job.entry.verifier) scratch.old output.old result scratch.new output.new }
 {
     let made = encipher(
+        job,
         block_keys::Kind::Office97,
         limits::RC4_KEY_BITS_DEFAULT,
-        plain,
-        password,
-        salt,
-        verifier,
         scratch,
         output,
     );
-    let encrypted = made.encrypted;
     put(&[0x2Fu8, 0], output, at);
-    put_office97(salt, encrypted, output, at + 4);
+    put_office97(job.salt, made.encrypted, output, at + 4);
     made.keys
 }
 
-// Seals a stream under CryptoAPI, in the zero record of so many bytes at an offset. Returns how many block keys were
-// derived.
+// Seals a stream under CryptoAPI, in a zero record. Returns how many block keys were derived.
 fn lock_crypto_api(
-    plain: &[u8],
-    at: usize,
-    len: u16,
-    password: &[u8],
+    job: Job<'_>,
+    zero: BiffRecord,
     major: u16,
     bits: u32,
-    salt: [u8; 16],
-    verifier: [u8; 16],
     scratch: &mut [u8],
     output: &mut [u8],
 ) -> usize
-    requires { Room plain.now output.old at len × (106 ≤ len) × (well_formed password.now ≡ true) × (64 ≤ length scratch.old) }
-    ensures { LocksRc4 plain.now at len (schedule_of family.CryptoApi bits salt password.now) (crypto_api_body (schedule_of family.CryptoApi bits salt password.now) major bits len salt verifier) scratch.old output.old result scratch.new output.new }
+    requires { Room job.plain.now output.old zero.at zero.len × (106 ≤ zero.len) × (well_formed job.password.now ≡ true) × (64 ≤ length scratch.old) }
+    ensures { LocksRc4 job.entry.plain.now zero.at zero.len (schedule_of family.CryptoApi bits job.entry.salt job.entry.password.now) (crypto_api_body (schedule_of family.CryptoApi bits job.entry.salt job.entry.password.now) major bits zero.len job.entry.salt job.entry.verifier) scratch.old output.old result scratch.new output.new }
 {
-    let made = encipher(
-        block_keys::Kind::CryptoApi,
+    let made = encipher(job, block_keys::Kind::CryptoApi, bits, scratch, output);
+    put(&[0x2Fu8, 0], output, zero.at);
+    put_crypto_api(
+        major,
         bits,
-        plain,
-        password,
-        salt,
-        verifier,
-        scratch,
+        zero.len,
+        job.salt,
+        made.encrypted,
         output,
+        zero.at + 4,
     );
-    let encrypted = made.encrypted;
-    put(&[0x2Fu8, 0], output, at);
-    put_crypto_api(major, bits, len, salt, encrypted, output, at + 4);
     made.keys
 }
 
-// What opening the sealed stream will report.
+// What opening the sealed stream will report. Its parameters are the report's fields but the one that is always the same,
+// and a struct of them would be the report once more.
 fn report(
     records: usize,
-    lock: excel97::Lock,
+    lock: Lock,
     key_bits: u32,
     bytes: usize,
     enciphered: usize,
     block_keys: usize,
-) -> excel97::Report
+) -> Report
     ensures { result ≡ record { records = records; lock = lock; key_bits = key_bits; summary_sealed = false; output_bytes = bytes; enciphered_body_bytes = enciphered; block_keys = block_keys } }
 {
-    excel97::Report {
+    Report {
         records,
         lock,
         key_bits,
@@ -385,101 +295,63 @@ fn report(
     }
 }
 
-// Asks question 32, and seals the stream in the zero record of so many bytes at an offset.
+// Asks question 32, and seals the stream, with its counts, in its zero record.
 fn seal_in(
-    plain: &[u8],
-    records: usize,
-    enciphered: usize,
-    at: usize,
-    len: u16,
-    password: &[u8],
-    choice: Choice,
-    salt: [u8; 16],
-    verifier: [u8; 16],
+    job: Job<'_>,
+    counts: Counts,
+    zero: BiffRecord,
     scratch: &mut [u8],
     output: &mut [u8],
-) -> Answer
-    requires { Ready plain.now choice password.now scratch.old output.old records enciphered at len }
-    ensures { Settles plain.now password.now choice salt verifier scratch.old output.old result scratch.new output.new }
+) -> Result<Report, Refusal>
+    requires { Ready job.plain.now job.choice job.password.now scratch.old output.old counts zero }
+    ensures { Settles job.entry.plain.now job.entry.password.now job.entry.choice job.entry.salt job.entry.verifier scratch.old output.old result scratch.new output.new }
 {
-    let rest = enciphered - (len as usize);
-    let bytes = plain.len();
-    match choice {
+    let records = counts.records;
+    let rest = counts.enciphered - (zero.len as usize);
+    let bytes = job.plain.len();
+    match job.choice {
         Choice::Xor => {
-            let lock = excel97::xor_lock(password);
-            if !lock.ok {
-                return Answer::Refused(file_params::Refusal::XorPasswordUnfit);
-            }
-            lock_xor(plain, at, lock, output);
-            Answer::Sealed(report(records, excel97::Lock::Xor, 0, bytes, rest, 0))
+            let lock = excel97::xor_lock(job.password).ok_or(Refusal::XorPasswordUnfit)?;
+            lock_xor(job.plain, zero.at, lock, output);
+            Ok(report(records, Lock::Xor, 0, bytes, rest, 0))
         }
         Choice::Office97 => {
-            let keys = lock_office97(plain, at, password, salt, verifier, scratch, output);
+            let keys = lock_office97(job, zero.at, scratch, output);
             let bits = limits::RC4_KEY_BITS_DEFAULT;
-            Answer::Sealed(report(records, excel97::Lock::Office97, bits, bytes, rest, keys))
+            Ok(report(records, Lock::Office97, bits, bytes, rest, keys))
         }
         Choice::CryptoApi(major, bits) => {
-            let keys = lock_crypto_api(
-                plain, at, len, password, major, bits, salt, verifier, scratch, output,
-            );
-            Answer::Sealed(report(records, excel97::Lock::CryptoApi, bits, bytes, rest, keys))
+            let keys = lock_crypto_api(job, zero, major, bits, scratch, output);
+            Ok(report(records, Lock::CryptoApi, bits, bytes, rest, keys))
         }
     }
 }
 
 // Asks questions 6, 7, 13 and 23.
-fn check_plain(plain: &[u8], end: binary_office::WalkEnd, choice: Choice) -> survey::Checked
-    ensures { result ≡ checked_of (asked (in_order end (walk plain.now).records ++ admitted choice)) }
+fn check_plain(plain: &[u8], fault: Option<usize>, choice: Choice) -> Result<(), Refusal>
+    ensures { result ≡ unless tt (asked (in_order fault (walk plain.now).records ++ admitted choice)) }
 {
-    match survey::check_records(plain, end) {
-        survey::Checked::Refused(refusal) => survey::Checked::Refused(refusal),
-        survey::Checked::Fine => check_choice(choice),
-    }
+    survey::check_records(plain, fault)?;
+    check_choice(choice)
 }
 
 // Asks questions 6 to 32, and seals the stream where they are passed.
-fn seal_stream(
-    plain: &[u8],
-    password: &[u8],
-    choice: Choice,
-    salt: [u8; 16],
-    verifier: [u8; 16],
-    scratch: &mut [u8],
-    output: &mut [u8],
-) -> Answer
-    requires { (well_formed password.now ≡ true) × (64 ≤ length scratch.old) × (length plain.now ≤ length output.old) }
-    ensures { Settles plain.now password.now choice salt verifier scratch.old output.old result scratch.new output.new }
+fn seal_stream(job: Job<'_>, scratch: &mut [u8], output: &mut [u8]) -> Result<Report, Refusal>
+    requires { (well_formed job.password.now ≡ true) × (64 ≤ length scratch.old) × (length job.plain.now ≤ length output.old) }
+    ensures { Settles job.entry.plain.now job.entry.password.now job.entry.choice job.entry.salt job.entry.verifier scratch.old output.old result scratch.new output.new }
 {
-    let counts = survey::count_records(plain);
-    let end = counts.end;
-    match check_plain(plain, end, choice) {
-        survey::Checked::Refused(refusal) => Answer::Refused(refusal),
-        survey::Checked::Fine => {
-            let survey::Found::At(at, len) = find_zero(plain) else {
-                return Answer::Refused(file_params::Refusal::ZeroRecordMissing);
-            };
-            if !length_fits(choice, len) {
-                return Answer::Refused(file_params::Refusal::ZeroRecordLength(len));
-            }
-            seal_in(
-                plain,
-                counts.records,
-                counts.enciphered,
-                at,
-                len,
-                password,
-                choice,
-                salt,
-                verifier,
-                scratch,
-                output,
-            )
-        }
+    let counts = survey::count_records(job.plain);
+    check_plain(job.plain, counts.fault, job.choice)?;
+    let zero = find_zero(job.plain).ok_or(Refusal::ZeroRecordMissing)?;
+    if !length_fits(job.choice, zero.len) {
+        return Err(Refusal::ZeroRecordLength(zero.len));
     }
+    seal_in(job, counts, zero, scratch, output)
 }
 
 // Seals a plain workbook stream under a password: the sealed stream into the output and what opening it will report, or a
-// refusal. The verifier is given plain; it and the salt are to be fresh for each sealing.
+// refusal. The verifier is given plain; it and the salt are to be fresh for each sealing. They stay apart from one another
+// here, where a Job would ask callers for a value of its type.
 pub fn seal(
     plain: &[u8],
     password: &[u8],
@@ -488,15 +360,18 @@ pub fn seal(
     verifier: [u8; 16],
     scratch: &mut [u8],
     output: &mut [u8],
-) -> Answer
+) -> Result<Report, Refusal>
     ensures { Seals plain.now password.now choice salt verifier scratch.old output.old result scratch.new output.new }
 {
-    match excel97::check_lent(password, plain.len(), scratch.len(), output.len()) {
-        survey::Checked::Refused(refusal) => Answer::Refused(refusal),
-        survey::Checked::Fine => {
-            let settled = seal_stream(plain, password, choice, salt, verifier, scratch, output);
-            sensitive::wipe(scratch, limits::SCRATCH_LEN);
-            settled
-        }
-    }
+    excel97::check_lent(password, plain.len(), scratch.len(), output.len())?;
+    let job = Job {
+        plain,
+        password,
+        choice,
+        salt,
+        verifier,
+    };
+    let settled = seal_stream(job, scratch, output);
+    sensitive::wipe(scratch, limits::SCRATCH_LEN);
+    settled
 }

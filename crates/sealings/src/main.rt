@@ -3,421 +3,351 @@
 // and a line for each difference. tools/make_sealings.py makes the data and what is expected.
 #![tactic(auto)]
 
-ghost use Rattle.std.specs.Prelude.{◌≡◌, ◌≤◌, length};
-
-use samples::{lent_byte, number, part};
+use excel97::Report;
+use file_params::Refusal;
+use samples::{Reader, part};
+use sealing::Choice;
 use std::io;
 use std::rt::Files;
 
-fn data_buffer() -> [u8; 262144]
-    ensures { 262144 ≡ length result }
-{
-    [0; 262144]
+// What a case is sealed under: the lock's number, the choice that it names, salt and verifier, and the lengths of scratch
+// and output; and what is wanted: the answer's number, 0 for a stream that is sealed and else the refusal's, and the facts.
+#[derive(Clone, Copy, Debug)]
+struct Terms<'a> {
+    lock: usize,
+    choice: Choice,
+    scratch_len: usize,
+    output_len: usize,
+    answer: usize,
+    facts: &'a [u8],
+    salt: [u8; 16],
+    verifier: [u8; 16],
 }
 
-fn at_most(n: usize, most: usize) -> usize
-    ensures { result ≤ most }
-{
-    if n < most { n } else { most }
-}
-
-fn word(rt: &impl Print, text: &[u8]) -> io::Result<()> {
-    rt.write_all(text)
-}
-
-fn decimal(rt: &impl Print, n: u64) -> io::Result<()> {
-    print!(rt; "{n}")
-}
-
-// What came of sealing or opening: 0 or the refusal's number, and the facts of the report or the refusal's two details.
-#[derive(Clone, Copy)]
-struct Told {
-    number: u32,
-    facts: [u64; 7],
-}
-
-// The number of a lock.
-fn lock_number(lock: excel97::Lock) -> u64 {
-    match lock {
-        excel97::Lock::Xor => 0,
-        excel97::Lock::Office97 => 1,
-        excel97::Lock::CryptoApi => 2,
-    }
-}
-
-// A report as facts.
-fn reported(report: excel97::Report) -> Told {
-    let lock = report.lock;
-    let facts = [
-        report.records as u64,
-        lock_number(lock),
-        report.key_bits as u64,
-        if report.summary_sealed { 1 } else { 0 },
-        report.output_bytes as u64,
-        report.enciphered_body_bytes as u64,
-        report.block_keys as u64,
-    ];
-    Told { number: 0, facts }
-}
-
-// A refusal as facts.
-fn refused(refusal: file_params::Refusal) -> Told {
-    let details = file_params::details_of(refusal);
-    let facts = [details.first, details.second, 0, 0, 0, 0, 0];
-    Told {
-        number: file_params::number(refusal),
-        facts,
-    }
-}
-
-fn sealed(answer: sealing::Answer) -> Told {
-    match answer {
-        sealing::Answer::Sealed(report) => reported(report),
-        sealing::Answer::Refused(refusal) => refused(refusal),
-    }
-}
-
-fn opened(answer: excel97::Answer) -> Told {
-    match answer {
-        excel97::Answer::Opened(report) => reported(report),
-        excel97::Answer::Refused(refusal) => refused(refusal),
-    }
-}
-
-// Whether the facts are those wanted, numbers of four bytes.
-fn facts_same(told: &[u64; 7], want: &[u8]) -> bool {
-    let mut i = 0;
-    while i < 7 {
-        if told[i] != number(want, 4 * i) as u64 {
-            return false;
-        }
-        i += 1;
-    }
-    true
-}
-
-// Whether the first bytes of a buffer are zero, as far as there are so many.
-fn zeros(buffer: &[u8], n: usize) -> bool {
-    let mut i = 0;
-    while i < buffer.len() {
-        if (i < n) & (buffer[i] != 0) {
-            return false;
-        }
-        i += 1;
-    }
-    true
-}
-
-// Whether a buffer is as it was lent, from an offset on.
-fn as_lent(buffer: &[u8], from: usize) -> bool {
-    let mut i = 0;
-    while i < buffer.len() {
-        if (from <= i) & (buffer[i] != lent_byte(i)) {
-            return false;
-        }
-        i += 1;
-    }
-    true
-}
-
-// Whether the first bytes of the output are those wanted, and the others as they were lent.
-fn output_same(output: &[u8], want: &[u8]) -> bool {
-    check::same(part(output, 0, want.len()), want) & as_lent(output, want.len())
-}
-
-// Whether the scratch is what an answer of a number leaves of it.
-fn scratch_same(scratch: &[u8], answer: usize) -> bool {
-    if (1 <= answer) & (answer <= 5) {
-        as_lent(scratch, 0)
-    } else {
-        zeros(scratch, 64) & as_lent(scratch, 64)
-    }
-}
-
-// Writes that something of a case is not as wanted, and what it is by its number and first facts. Tells whether it is as
-// wanted.
-fn expect(rt: &impl Print, ok: bool, name: &[u8], what: &[u8], told: Told) -> io::Result<bool> {
-    if !ok {
-        let facts = told.facts;
-        word(rt, name)?;
-        word(rt, b": ")?;
-        word(rt, what)?;
-        word(rt, b", after answer ")?;
-        decimal(rt, told.number as u64)?;
-        word(rt, b" with ")?;
-        decimal(rt, facts[0])?;
-        word(rt, b" and ")?;
-        decimal(rt, facts[1])?;
-        word(rt, b"\n")?;
-    }
-    Ok(ok)
-}
-
-// Whether a sealed stream opens with its password, to the plain stream and with the facts wanted.
-fn opens(
-    rt: &impl Print,
-    name: &[u8],
-    stream: &[u8],
-    password: &[u8],
-    plain: &[u8],
-    facts: &[u8],
-) -> io::Result<bool> {
-    let mut scratch = [0u8; 70];
-    let mut output = [0u8; 8192];
-    samples::lend(&mut scratch);
-    samples::lend(&mut output);
-    let told = opened(excel97::open(stream, password, &mut scratch, &mut output));
-    let fine = (told.number == 0) & facts_same(&told.facts, facts);
-    let answer = expect(rt, fine, name, b"what opening it answers", told)?;
-    let kept = output_same(&output, plain) & scratch_same(&scratch, 0);
-    let left = expect(rt, kept, name, b"what opening it leaves", told)?;
-    Ok(answer & left)
-}
-
-// Whether a sealed stream is refused by 27 with another password.
-fn shuts(rt: &impl Print, name: &[u8], stream: &[u8], other: &[u8]) -> io::Result<bool> {
-    let mut scratch = [0u8; 70];
-    let mut output = [0u8; 8192];
-    samples::lend(&mut scratch);
-    samples::lend(&mut output);
-    let told = opened(excel97::open(stream, other, &mut scratch, &mut output));
-    let fine = (told.number == 27) & facts_same(&told.facts, b"");
-    let answer = expect(rt, fine, name, b"what another password answers", told)?;
-    let kept = as_lent(&output, 0) & scratch_same(&scratch, 27);
-    let left = expect(rt, kept, name, b"what another password leaves", told)?;
-    Ok(answer & left)
-}
-
-// Sixteen bytes at an offset, zeros where they do not lie within.
-fn sixteen(d: &[u8], at: usize) -> [u8; 16] {
-    let bytes = part(d, at, 16);
-    let mut made = [0u8; 16];
-    let mut i = 0;
-    while i < 16 {
-        if i < bytes.len() {
-            made[i] = bytes[i];
-        }
-        i += 1;
-    }
-    made
+// A case: its terms and its name, its password and another one, the plain stream, and what the output is to hold.
+#[derive(Clone, Copy, Debug)]
+struct Case<'a> {
+    terms: Terms<'a>,
+    name: &'a [u8],
+    password: &'a [u8],
+    other: &'a [u8],
+    plain: &'a [u8],
+    want: &'a [u8],
 }
 
 // The choice by a lock's number, with a major version and a key size.
-fn choice_of(lock: usize, major: usize, bits: usize) -> sealing::Choice {
-    if lock == 0 {
-        return sealing::Choice::Xor;
-    }
-    if lock == 1 {
-        return sealing::Choice::Office97;
-    }
-    sealing::Choice::CryptoApi((major % 65536) as u16, (bits % 4294967296) as u32)
-}
-
-// How many cases had each outcome: by the refusal's number; from 33 on how many were sealed under each lock; then how many
-// opened again, how many were refused with another password, how many cases there are, and how many of them differ.
-const KINDS: usize = 40;
-
-fn counted(counts: &mut [u64; KINDS], k: usize) {
-    if k < 40 {
-        counts[k] = std::num::wrapping_add_u64(counts[k], 1);
+fn choice_of(lock: usize, major: usize, bits: usize) -> Choice {
+    match lock {
+        0 => Choice::Xor,
+        1 => Choice::Office97,
+        _ => Choice::CryptoApi((major % 65536) as u16, (bits % 4294967296) as u32),
     }
 }
 
-// Seals a stream with what is lent. Tells whether all is as wanted. The terms are the lock, the major version, the key size,
-// the lengths of scratch and output, the answer's number and seven facts, and salt and verifier.
-fn seal_lent(
-    rt: &impl Print,
-    name: &[u8],
-    password: &[u8],
-    plain: &[u8],
-    want: &[u8],
-    terms: &[u8],
-    scratch: &mut [u8],
-    output: &mut [u8],
-) -> io::Result<bool> {
-    let choice = choice_of(number(terms, 0), number(terms, 4), number(terms, 8));
-    let salt = sixteen(terms, 52);
-    let verifier = sixteen(terms, 68);
-    let answer = number(terms, 20);
-    let told = sealed(sealing::seal(plain, password, choice, salt, verifier, scratch, output));
-    let answered = expect(
-        rt,
-        told.number as usize == answer,
-        name,
-        b"the answer",
-        told,
-    )?;
-    let same = facts_same(&told.facts, part(terms, 24, 28));
-    let facts = expect(rt, same, name, b"the facts", told)?;
-    let written = expect(rt, output_same(output, want), name, b"the output", told)?;
-    let wiped = expect(
-        rt,
-        scratch_same(scratch, answer),
-        name,
-        b"the scratch",
-        told,
-    )?;
-    Ok(answered & facts & written & wiped)
+// The next sixteen bytes, or zeros where there are fewer.
+fn sixteen(data: &mut Reader) -> [u8; 16] {
+    *data.bytes(16).first_chunk().unwrap_or(&[0; 16])
 }
 
-// Seals a stream with what is lent, and opens it where it is to be sealed. Counts what came of it.
-fn run_lent(
-    rt: &impl Print,
-    name: &[u8],
-    password: &[u8],
-    other: &[u8],
-    plain: &[u8],
-    want: &[u8],
-    terms: &[u8],
-    scratch: &mut [u8],
-    output: &mut [u8],
-    counts: &mut [u64; KINDS],
-) -> io::Result<()> {
-    let mut same = seal_lent(rt, name, password, plain, want, terms, scratch, output)?;
-    let answer = number(terms, 20);
-    if same {
-        counted(
-            counts,
-            if answer == 0 {
-                33 + number(terms, 0) % 3
-            } else {
-                answer
-            },
-        );
+// Reads terms: the lock, the major version, the key size, the lengths of scratch and output, the answer's number, seven
+// facts, and salt and verifier.
+fn terms_of(data: &[u8]) -> Terms {
+    let mut data = Reader::new(data);
+    let lock = data.number();
+    let major = data.number();
+    let bits = data.number();
+    let scratch_len = data.number();
+    let output_len = data.number();
+    let answer = data.number();
+    let facts = data.bytes(28);
+    let salt = sixteen(&mut data);
+    let verifier = sixteen(&mut data);
+    Terms {
+        lock,
+        choice: choice_of(lock, major, bits),
+        scratch_len,
+        output_len,
+        answer,
+        facts,
+        salt,
+        verifier,
     }
-    if answer == 0 {
-        let stream = part(output, 0, plain.len());
-        let again = opens(rt, name, stream, password, plain, part(terms, 24, 28))?;
-        let shut = shuts(rt, name, stream, other)?;
-        if again {
-            counted(counts, 36);
-        }
-        if shut {
-            counted(counts, 37);
-        }
-        same = same & again & shut;
-    }
-    counted(counts, 38);
-    if !same {
-        counted(counts, 39);
-    }
-    Ok(())
 }
 
-// Runs a case, with a scratch and an output of the lengths that its terms name.
-fn run(
-    rt: &impl Print,
-    name: &[u8],
-    password: &[u8],
-    other: &[u8],
-    plain: &[u8],
-    want: &[u8],
-    terms: &[u8],
-    counts: &mut [u64; KINDS],
-) -> io::Result<()> {
-    let mut scratch = [0u8; 8192];
-    let mut output = [0u8; 8192];
-    samples::lend(&mut scratch);
-    samples::lend(&mut output);
-    let s = at_most(number(terms, 12), 8192);
-    let o = at_most(number(terms, 16), 8192);
-    run_lent(
-        rt,
+// Reads a case: the terms, and then name, password, another password, plain stream and sealed stream, each after its length.
+fn case_of(data: &[u8]) -> Case {
+    let mut data = Reader::new(data);
+    let terms = terms_of(data.bytes(84));
+    let name = data.sized();
+    let password = data.sized();
+    let other = data.sized();
+    let plain = data.sized();
+    let want = data.sized();
+    Case {
+        terms,
         name,
         password,
         other,
         plain,
         want,
-        terms,
-        &mut scratch[0..s],
-        &mut output[0..o],
-        counts,
-    )
-}
-
-// Runs a case of the data: the terms, and then name, password, another password, plain stream and sealed stream, each after
-// its length.
-fn run_case(rt: &impl Print, data: &[u8], counts: &mut [u64; KINDS]) -> io::Result<()> {
-    let name = number(data, 84);
-    let password_at = 92 + name;
-    let password = number(data, 88 + name);
-    let other_at = password_at + password + 4;
-    let other = number(data, password_at + password);
-    let plain_at = other_at + other + 4;
-    let plain = number(data, other_at + other);
-    let want_at = plain_at + plain + 4;
-    let want = number(data, plain_at + plain);
-    run(
-        rt,
-        part(data, 88, name),
-        part(data, password_at, password),
-        part(data, other_at, other),
-        part(data, plain_at, plain),
-        part(data, want_at, want),
-        part(data, 0, 84),
-        counts,
-    )
-}
-
-// Runs the cases of a part of the data, each after its length.
-fn run_all(rt: &impl Print, data: &[u8], counts: &mut [u64; KINDS]) -> io::Result<()> {
-    let mut at: usize = 0;
-    while at < data.len() {
-        let len = number(data, at);
-        run_case(rt, part(data, at + 4, len), counts)?;
-        at = at + 4 + len;
     }
-    Ok(())
 }
 
-// Runs the cases of a file.
-fn run_file<R: Files + Print + Eprint>(
-    rt: &R,
-    path: &[u8],
-    counts: &mut [u64; KINDS],
-) -> io::Result<()> {
-    let mut data = data_buffer();
-    let n = samples::read(rt, path, &mut data);
-    run_all(rt, &data[0..n], counts)
+// What sealing or opening answers: 0, or the refusal's number.
+fn number_of(answer: Result<Report, Refusal>) -> usize {
+    match answer {
+        Ok(_) => 0,
+        Err(refusal) => file_params::number(refusal) as usize,
+    }
 }
 
-// Writes a line of the counts.
-fn tell(rt: &impl Print, what: &[u8], n: u64) -> io::Result<()> {
-    word(rt, what)?;
-    word(rt, b"\t")?;
-    decimal(rt, n)?;
-    word(rt, b"\n")
-}
-
-// Writes how many cases were refused, by number.
-fn tell_refused(rt: &impl Print, counts: &[u64; KINDS]) -> io::Result<()> {
-    let mut k = 1;
-    while k < 33 {
-        if 0 < counts[k] {
-            word(rt, b"refused by ")?;
-            decimal(rt, k as u64)?;
-            word(rt, b"\t")?;
-            decimal(rt, counts[k])?;
-            word(rt, b"\n")?;
+// The facts of the report, or the refusal's two details.
+fn facts_of(answer: Result<Report, Refusal>) -> [u64; 7] {
+    match answer {
+        Ok(report) => [
+            report.records as u64,
+            report.lock as u64,
+            u64::from(report.key_bits),
+            u64::from(report.summary_sealed),
+            report.output_bytes as u64,
+            report.enciphered_body_bytes as u64,
+            report.block_keys as u64,
+        ],
+        Err(refusal) => {
+            let details = file_params::details_of(refusal);
+            [details.first, details.second, 0, 0, 0, 0, 0]
         }
-        k += 1;
+    }
+}
+
+// Whether the facts are those wanted, numbers of four bytes.
+fn facts_same(answer: Result<Report, Refusal>, want: &[u8]) -> bool {
+    let mut want = Reader::new(want);
+    facts_of(answer)
+        .iter()
+        .all(|fact| *fact == want.number() as u64)
+}
+
+// Whether as much of the scratch is zero as is used, and the rest as it was lent.
+fn wiped(scratch: &[u8]) -> bool {
+    let zeros = [0u8; 64];
+    samples::holds(scratch, &zeros[..scratch.len().min(64)])
+}
+
+// Whether the scratch is what an answer of a number leaves of it.
+fn scratch_same(scratch: &[u8], answer: usize) -> bool {
+    match answer {
+        1..=5 => samples::holds(scratch, &[]),
+        _ => wiped(scratch),
+    }
+}
+
+// Writes that something of a case is not as wanted, and what it is by its number and first facts. Tells whether it is as
+// wanted.
+fn expect(
+    rt: &impl Print,
+    ok: bool,
+    name: &[u8],
+    what: &str,
+    answer: Result<Report, Refusal>,
+) -> io::Result<bool> {
+    if !ok {
+        let number = number_of(answer);
+        let [first, second, ..] = facts_of(answer);
+        rt.write_all(name)?;
+        println!(rt; ": {what}, after answer {number} with {first} and {second}")?;
+    }
+    Ok(ok)
+}
+
+// Opens a sealed stream with a password. Tells whether the answer passes a test, the output holds some bytes, and the
+// scratch is wiped; each of the two texts says what is judged.
+fn opens<F: FnOnce(Result<Report, Refusal>) -> bool>(
+    rt: &impl Print,
+    name: &[u8],
+    stream: &[u8],
+    password: &[u8],
+    test: F,
+    held: &[u8],
+    what: [&str; 2],
+) -> io::Result<bool>
+    requires { F.IsAlwaysCallable test }
+{
+    let mut scratch = [0u8; 70];
+    let mut output = [0u8; 8192];
+    samples::lend(&mut scratch);
+    samples::lend(&mut output);
+    let told = excel97::open(stream, password, &mut scratch, &mut output);
+    let answer = expect(rt, test(told), name, what[0], told)?;
+    let kept = samples::holds(&output, held) && wiped(&scratch);
+    let left = expect(rt, kept, name, what[1], told)?;
+    Ok(answer && left)
+}
+
+// Whether a sealed stream opens with its password, to the plain stream and with the facts wanted.
+fn opens_again(rt: &impl Print, case: Case, stream: &[u8]) -> io::Result<bool> {
+    opens(
+        rt,
+        case.name,
+        stream,
+        case.password,
+        |told| told.is_ok() && facts_same(told, case.terms.facts),
+        case.plain,
+        ["what opening it answers", "what opening it leaves"],
+    )
+}
+
+// Whether a sealed stream is refused with another password.
+fn shuts(rt: &impl Print, case: Case, stream: &[u8]) -> io::Result<bool> {
+    opens(
+        rt,
+        case.name,
+        stream,
+        case.other,
+        |told| matches!(told, Err(Refusal::WrongPassword)),
+        &[],
+        [
+            "what another password answers",
+            "what another password leaves",
+        ],
+    )
+}
+
+// Seals a stream with what is lent. Tells whether all is as wanted.
+fn seals(rt: &impl Print, case: Case, scratch: &mut [u8], output: &mut [u8]) -> io::Result<bool> {
+    let Terms {
+        choice,
+        answer,
+        facts,
+        salt,
+        verifier,
+        ..
+    } = case.terms;
+    let told = sealing::seal(
+        case.plain,
+        case.password,
+        choice,
+        salt,
+        verifier,
+        scratch,
+        output,
+    );
+    let answered = expect(rt, number_of(told) == answer, case.name, "the answer", told)?;
+    let reported = expect(rt, facts_same(told, facts), case.name, "the facts", told)?;
+    let fine = samples::holds(output, case.want);
+    let written = expect(rt, fine, case.name, "the output", told)?;
+    let fine = scratch_same(scratch, answer);
+    let left = expect(rt, fine, case.name, "the scratch", told)?;
+    Ok(answered && reported && written && left)
+}
+
+// How many cases had each outcome, 0 for a stream that is sealed and else the refusal's number; how many were sealed under
+// each lock, opened again, and were refused with another password; how many cases there are, and how many of them differ.
+#[derive(Clone, Copy, Debug, PartialEq, Eq)]
+struct Tally {
+    outcomes: [u64; 33],
+    xor: u64,
+    office97: u64,
+    cryptoapi: u64,
+    opened: u64,
+    shut: u64,
+    cases: u64,
+    differ: u64,
+}
+
+impl Tally {
+    // Counts a case that is sealed or refused as it is to be.
+    fn count(&mut self, terms: Terms) {
+        if let Some(count) = self.outcomes.get_mut(terms.answer) {
+            *count = count.wrapping_add(1);
+        }
+        if terms.answer == 0 {
+            match terms.lock % 3 {
+                0 => self.xor = self.xor.wrapping_add(1),
+                1 => self.office97 = self.office97.wrapping_add(1),
+                _ => self.cryptoapi = self.cryptoapi.wrapping_add(1),
+            }
+        }
+    }
+
+    // Seals a case's stream with what is lent, and opens it where it is to be sealed. Counts what comes of it.
+    fn run_lent(
+        &mut self,
+        rt: &impl Print,
+        case: Case,
+        scratch: &mut [u8],
+        output: &mut [u8],
+    ) -> io::Result<()> {
+        let mut same = seals(rt, case, scratch, output)?;
+        if same {
+            self.count(case.terms);
+        }
+        if case.terms.answer == 0 {
+            let stream = part(output, 0, case.plain.len());
+            let opened = opens_again(rt, case, stream)?;
+            let shut = shuts(rt, case, stream)?;
+            self.opened = self.opened.wrapping_add(u64::from(opened));
+            self.shut = self.shut.wrapping_add(u64::from(shut));
+            same = same && opened && shut;
+        }
+        self.cases = self.cases.wrapping_add(1);
+        self.differ = self.differ.wrapping_add(u64::from(!same));
+        Ok(())
+    }
+
+    // Runs a case, with a scratch and an output of the lengths that its terms name.
+    fn run(&mut self, rt: &impl Print, case: Case) -> io::Result<()> {
+        let mut scratch = [0u8; 8192];
+        let mut output = [0u8; 8192];
+        samples::lend(&mut scratch);
+        samples::lend(&mut output);
+        self.run_lent(
+            rt,
+            case,
+            &mut scratch[..case.terms.scratch_len.min(8192)],
+            &mut output[..case.terms.output_len.min(8192)],
+        )
+    }
+
+    // Writes how many cases had each outcome.
+    fn tell(&self, rt: &impl Print) -> io::Result<()> {
+        println!(rt; "sealed under XOR\t{}", self.xor)?;
+        println!(rt; "sealed under 1.1\t{}", self.office97)?;
+        println!(rt; "sealed under CryptoAPI\t{}", self.cryptoapi)?;
+        println!(rt; "opened again\t{}", self.opened)?;
+        println!(rt; "refused with another password\t{}", self.shut)?;
+        for (number, count) in self.outcomes.iter().enumerate().skip(1) {
+            if 0 < *count {
+                println!(rt; "refused by {number}\t{count}")?;
+            }
+        }
+        println!(rt; "{} cases, {} differ", self.cases, self.differ)
+    }
+}
+
+// Runs the cases of a file, each after its length.
+fn run_file<R: Files + Print + Eprint>(rt: &R, path: &[u8], tally: &mut Tally) -> io::Result<()> {
+    let mut data = [0u8; 262144];
+    let mut cases = Reader::new(samples::read(rt, path, &mut data));
+    while !cases.is_empty() {
+        tally.run(rt, case_of(cases.sized()))?;
     }
     Ok(())
 }
 
 fn main(rt: HostRuntime) -> io::Result<()> {
-    let mut counts = [0u64; KINDS];
-    run_file(&rt, b"cases_1", &mut counts)?;
-    run_file(&rt, b"cases_2", &mut counts)?;
-    run_file(&rt, b"cases_3", &mut counts)?;
-    tell(&rt, b"sealed under XOR", counts[33])?;
-    tell(&rt, b"sealed under 1.1", counts[34])?;
-    tell(&rt, b"sealed under CryptoAPI", counts[35])?;
-    tell(&rt, b"opened again", counts[36])?;
-    tell(&rt, b"refused with another password", counts[37])?;
-    tell_refused(&rt, &counts)?;
-    decimal(&rt, counts[38])?;
-    word(&rt, b" cases, ")?;
-    decimal(&rt, counts[39])?;
-    word(&rt, b" differ\n")
+    let mut tally = Tally {
+        outcomes: [0; 33],
+        xor: 0,
+        office97: 0,
+        cryptoapi: 0,
+        opened: 0,
+        shut: 0,
+        cases: 0,
+        differ: 0,
+    };
+    for path in [b"cases_1", b"cases_2", b"cases_3"] {
+        run_file(&rt, path, &mut tally)?;
+    }
+    tally.tell(&rt)
 }

@@ -4,8 +4,11 @@ use mathlib.Core.Path.{◌≡◌, refl, sym, ap, ◌∙◌}
 use mathlib.Core.List.{List, [], ◌∷◌, ◌++◌, append-nil, append_assoc}
 use Prim.Native.Nat.{ℕ, ◌+◌, ◌-◌, ◌*◌, ◌/◌, ◌%◌, ◌^◌, ◌≤◌, ◌<◌}
 use native.Mathlib.Omega.{arith}
-use lib.ListN.{length, take, length-append}
-use lib.Seq.{take_at, paste, take-paste}
+use lib.ListN.{length, take, drop, length-append, length-drop}
+use lib.Seq.{take_at}
+use borrow.Rule.Slice.PartMut.{put_mid}
+use Rattle.std.proofs.Common.{length-take}
+use Rattle.std.proofs.lemmas.Slice.{take-put_mid}
 use borrow.Author.Tests.{lt-ltb, le-ltb}
 use Rattle.laws.proofs.Choice.{taken, left, either}
 use Rattle.sensitive.specs.Utf8.{utf8}
@@ -67,11 +70,14 @@ spells u p e =
 pub count_more : (ps : List ℕ) {n p : ℕ} {u : Units} → n ≡ length (utf16les ps) → Spells u p → n + u.len ≡ length (utf16les (ps ++ (p ∷ [])))
 count_more ps {p = p} e w = let l = w.len in rw (utf16les_add ps p, length-append) (omega arith)
 
--- a text's bytes stand at the start of out, and those of one character more are put behind them
-pub put_more : (out : List ℕ) (n : ℕ) (ps : List ℕ) (u : Units) (p : ℕ) → Spells u p → take n out ≡ utf16les ps → n + u.len ≤ length out
-    → take (n + u.len) (paste out n u.bytes u.len) ≡ utf16les (ps ++ (p ∷ []))
-put_more out n ps u p w e h =
-    take-paste out n u.bytes u.len (omega arith) w.whole ∙ rw (e, w.bytes) (sym (utf16les_add ps p))
+-- the bytes of one character more have as much room as they take, and are put behind those at the start of out
+module _ (out : List ℕ) (n : ℕ) (u : Units) {p : ℕ} (w : Spells u p) (h : n + u.len ≤ length out) where
+  pub put_room : length (take (n + u.len - n) (drop n out)) ≡ length (take u.len u.bytes)
+  put_room = let l = w.whole in simp (length-take, length-drop) (omega arith)
+
+  pub put_more : (ps part : List ℕ) (k : ℕ) → take n out ≡ utf16les ps → part ≡ take u.len u.bytes → take (n + u.len) (put_mid n k out part) ≡ utf16les (ps ++ (p ∷ []))
+  put_more ps part k e f =
+      take-put_mid n k out part (n + u.len) (rw (f, w.bytes, ← w.len)) (omega arith) ∙ rw (e, f, w.bytes) (sym (utf16les_add ps p))
 
 -- RFC 2781 section 5's example
 ra : utf16les (0x12345 ∷ 0x3D ∷ 0x52 ∷ 0x61 ∷ []) ≡ 0x08 ∷ 0xD8 ∷ 0x45 ∷ 0xDF ∷ 0x3D ∷ 0x00 ∷ 0x52 ∷ 0x00 ∷ 0x61 ∷ 0x00 ∷ []

@@ -1,8 +1,8 @@
 -- UTF-8 as RFC 3629 has it: the syntax of its section 4 and the code points of its section 3, the encoding of a code point, and a text as
 -- the list of its code points.
 -- Assumes nothing.
-use Rattle.std.specs.Prelude.{ℕ, zero, suc, ◌+◌, ◌*◌, ◌/◌, ◌%◌, ◌^◌, Bool, true, false, ◌&&◌, ◌||◌, List, [], ◌∷◌, ◌++◌, eqb, leb, ltb, length, get_or}
-use Rattle.std.proofs.Math.Option.{Option, none, some, map}
+use Rattle.std.specs.Option.{option_map}
+use Rattle.std.specs.Prelude.{ℕ, zero, suc, ◌+◌, ◌*◌, ◌/◌, ◌%◌, ◌^◌, Bool, true, false, ◌&&◌, ◌||◌, List, [], ◌∷◌, ◌++◌, eqb, leb, ltb, length, get_or, Option, None, Some}
 use Rattle.laws.specs.Choice.{pick, within}
 use Rattle.sensitive.specs.declared.Char.{Char}
 use Rattle.sensitive.specs.declared.Char.TheVariants.{Point, Malformed, End}
@@ -60,12 +60,12 @@ char_at s at = pick (leb (length s) at) End (character at (get_or s at 0) (get_o
 
 -- the code points of a text from an offset on, or none where what is left is not well formed; the first argument bounds their number
 unfoldable pub points_from : ℕ → List ℕ → ℕ → Option (List ℕ)
-points_from zero s at = none
+points_from zero s at = None
 points_from (suc f) s at =
     elim (char_at s at) [
-      | End ↦ some []
-      | Malformed ↦ none
-      | Point p next ↦ map (λ (ps : List ℕ). p ∷ ps) (points_from f s next)
+      | End ↦ Some []
+      | Malformed ↦ None
+      | Point p next ↦ option_map (λ (ps : List ℕ). p ∷ ps) (points_from f s next)
     ]
 
 -- the code points of a text: a text of n bytes has at most n, and its end is met after them
@@ -95,4 +95,4 @@ utf8s (p ∷ ps) = utf8 p ++ utf8s ps
 -- a text is well formed where it has code points
 unfoldable pub well_formed : List ℕ → Bool
 unfolding points
-well_formed s = elim (points s) [ none ↦ false | some ps ↦ true ]
+well_formed s = elim (points s) [ None ↦ false | Some ps ↦ true ]

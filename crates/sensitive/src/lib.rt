@@ -3,19 +3,22 @@
 // RFC 3629. The source's wrapped buffers are memory that the caller lends.
 #![tactic(auto)]
 
-ghost use Rattle.std.specs.Prelude.{◌≡◌, ◌++◌, ◌+◌, ◌/◌, ◌%◌, ◌^◌, ◌<◌, ◌≤◌, leb, length, get_or, drop, replicate};
-ghost use Rattle.std.proofs.Math.Option.{none, some};
-ghost use Rattle.std.proofs.Math.Seq.{paste};
+ghost use Rattle.std.specs.Prelude.{◌≡◌, ◌++◌, ◌^◌, ◌<◌, leb, length, get_or, take, drop, replicate, Some};
 ghost use Rattle.laws.specs.Choice.{pick};
 ghost use Rattle.laws.specs.Choice as choice;
 ghost use Rattle.sensitive.specs.Utf8.{char_at, well_formed};
 ghost use Rattle.sensitive.specs.Utf8 as utf8;
 ghost use Rattle.sensitive.specs.Utf16.{units, encoded, length_of, into};
-ghost use Rattle.sensitive.specs.Ansi.{ansi, ansi_of};
+ghost use Rattle.sensitive.specs.Utf16 as utf16;
+ghost use Rattle.sensitive.specs.Ansi.{ansi};
+
+use std::error::Error;
+use std::fmt;
+use std::marker::Model;
 
 // What is at an offset of a text: a character, by its code point and where the next one starts;
 // bytes that start no character; nothing.
-#[derive(Clone, Copy)]
+#[derive(Clone, Copy, Debug, PartialEq, Eq)]
 pub enum Char {
     Point(u32, usize),
     Malformed,
@@ -23,54 +26,107 @@ pub enum Char {
 }
 
 // A code point in UTF-16LE: its bytes, of which the first len count.
-#[derive(Clone, Copy)]
+// Kept as an array and a length: fixed memory.
+#[derive(Clone, Copy, Debug, PartialEq, Eq)]
 pub struct Units {
     pub bytes: [u8; 4],
     pub len: usize,
 }
 
-// How many bytes a text takes in UTF-16LE.
-#[derive(Clone, Copy)]
-pub enum Length {
-    Bytes(usize),
-    Malformed,
+impl Units {
+    // The bytes that count.
+    pub fn as_slice(&self) -> &[u8]
+        ensures { result.now ≡ take self.now.len self.now.bytes }
+    {
+        &self.bytes[..self.len.min(4)]
+    }
 }
 
-// What came of encoding a text into a buffer: how many bytes were written; the text is not well
-// formed; the buffer is shorter than the bytes that it takes.
-#[derive(Clone, Copy)]
-pub enum Encoded {
-    Bytes(usize),
+// Why a text is not encoded into a buffer: it is not well formed, or it takes this many bytes, which
+// are more than the buffer has.
+#[derive(Clone, Copy, Debug, PartialEq, Eq)]
+pub enum EncodeError {
     Malformed,
     Short(usize),
 }
 
-// An XOR password: its bytes, of which the first len count. A len of 0 means that there is none.
-#[derive(Clone, Copy)]
+impl fmt::Display for EncodeError {
+    fn fmt<W: fmt::Write>(&self, f: &mut fmt::Formatter<W>) -> fmt::Result {
+        match self {
+            EncodeError::Malformed => write!(f, "the text is not well-formed UTF-8"),
+            EncodeError::Short(need) => write!(
+                f,
+                "the text takes {need} bytes, more than there are"
+            ),
+        }
+    }
+}
+
+impl Error for EncodeError {}
+
+// An XOR password: 1 to 15 bytes. Clauses see the bytes. It is a secret, so nothing prints it.
+#[derive(Clone, Copy, PartialEq, Eq)]
 pub struct AnsiPassword {
+    bytes: [u8; 16],
+    len: usize,
+}
+
+impl Model for AnsiPassword {
+    ghost use Rattle.std.specs.Prelude.{◌≡◌, ◌++◌, ◌-◌, ◌≤◌, ℕ, List, length, take, replicate};
+
+    ghost Value = { List ℕ };
+
+    ghost view = { λ a. take a.len a.bytes };
+
+    ghost invariant = { λ a. (1 ≤ a.len) × (a.len ≤ 15) × (a.bytes ≡ take a.len a.bytes ++ replicate (16 - a.len) 0) };
+
+    ghost inverse = { λ bs. record { bytes = bs ++ replicate (16 - length bs) 0; len = length bs } };
+
+    ghost use Rattle.std.proofs.Common.{sym};
+    ghost use Rattle.sensitive.specs.Padded.{length-front};
+
+    ghost inverse_ok = { λ a h. Prim.rw (length-front a.bytes a.len h.1 h.2, sym h.2) };
+}
+
+impl AnsiPassword {
+    // The bytes.
+    pub fn as_slice(&self) -> &[u8]
+        ensures { result.now ≡ self.now }
+    {
+        &self.bytes[..self.len]
+    }
+}
+
+// The key of one block: its bytes, of which the first len count, followed by zeros. It is a secret, so
+// nothing prints it.
+// Kept as an array and a length: fixed memory.
+#[derive(Clone, Copy, PartialEq, Eq)]
+pub struct DerivedKey {
     pub bytes: [u8; 16],
     pub len: usize,
 }
 
-// The key of one block: its bytes, of which the first len count, followed by zeros.
-#[derive(Clone, Copy)]
-pub struct DerivedKey {
-    pub bytes: [u8; 16],
-    pub len: usize,
+impl DerivedKey {
+    // The bytes that count.
+    pub fn as_slice(&self) -> &[u8]
+        ensures { result.now ≡ take self.now.len self.now.bytes }
+    {
+        &self.bytes[..self.len.min(16)]
+    }
 }
 
 // The byte at an offset of a text, 0 past its end.
 fn byte_at(text: &[u8], at: usize) -> u8
     ensures { result ≡ get_or text.now at 0 }
 {
-    if at < text.len() { text[at] } else { 0 }
+    text.get(at).copied().unwrap_or(0)
 }
 
 // A byte from lo to hi.
 fn within(lo: u8, hi: u8, x: u8) -> bool
     ensures { result ≡ choice.within lo hi x }
 {
-    (lo <= x) & (x <= hi)
+    (lo..=hi).contains(&x)
 }
 
 // A byte that goes on a character.
@@ -113,21 +169,24 @@ fn four(a: u8, b: u8, c: u8, d: u8) -> bool
 fn point2(a: u8, b: u8) -> u32
     ensures { result ≡ utf8.point2 a b }
 {
-    (a as u32) % 32 * 64 + (b as u32) % 64
+    u32::from(a) % 32 * 64 + u32::from(b) % 64
 }
 
 // The code point of a character of three bytes.
 fn point3(a: u8, b: u8, c: u8) -> u32
     ensures { result ≡ utf8.point3 a b c }
 {
-    (a as u32) % 16 * 4096 + (b as u32) % 64 * 64 + (c as u32) % 64
+    u32::from(a) % 16 * 4096 + u32::from(b) % 64 * 64 + u32::from(c) % 64
 }
 
 // The code point of a character of four bytes.
 fn point4(a: u8, b: u8, c: u8, d: u8) -> u32
     ensures { result ≡ utf8.point4 a b c d }
 {
-    (a as u32) % 8 * 262144 + (b as u32) % 64 * 4096 + (c as u32) % 64 * 64 + (d as u32) % 64
+    u32::from(a) % 8 * 262144
+        + u32::from(b) % 64 * 4096
+        + u32::from(c) % 64 * 64
+        + u32::from(d) % 64
 }
 
 // The character that the bytes a, b, c, d start, the first of which is at `at`.
@@ -136,7 +195,7 @@ fn character(at: usize, a: u8, b: u8, c: u8, d: u8) -> Char
     ensures { result ≡ utf8.character at a b c d }
 {
     if within(0x00, 0x7F, a) {
-        return Char::Point(a as u32, at + 1);
+        return Char::Point(u32::from(a), at + 1);
     }
     if two(a, b) {
         return Char::Point(point2(a, b), at + 2);
@@ -166,18 +225,59 @@ pub fn char_at(text: &[u8], at: usize) -> Char
     )
 }
 
-// The lower byte of a unit of 16 bits.
-fn lower(unit: u32) -> u8
-    ensures { result ≡ unit % 256 }
-{
-    (unit % 256) as u8
+// That bytes of a text start no character.
+#[derive(Clone, Copy, Debug, PartialEq, Eq)]
+pub struct Malformed;
+
+// The characters of a text from an offset on, by their code points. After bytes that start no
+// character there are no more.
+#[derive(Clone, Copy)]
+pub struct Chars<'a> {
+    text: &'a [u8],
+    at: usize,
 }
 
-// The upper byte of a unit of 16 bits.
-fn upper(unit: u32) -> u8
-    ensures { result ≡ unit / 256 % 256 }
+impl<'a> Chars<'a> {
+    // All characters of a text.
+    pub fn new(text: &'a [u8]) -> Self
+        ensures text { result.text.now ≡ text.now }
+        ensures at { result.at ≡ 0 }
+    {
+        Chars { text, at: 0 }
+    }
+}
+
+impl<'a> Iterator for Chars<'a> {
+    ghost use Rattle.std.specs.Iterator.{at_most};
+    ghost use Rattle.std.specs.Prelude.{length, ◌-◌};
+    ghost use Rattle.sensitive.specs.Chars.{Steps};
+
+    type Item = Result<u32, Malformed>;
+
+    ghost next_gives = { Steps };
+
+    ghost remaining = { λ s. at_most (length s.text.now - s.at) };
+
+    fn next(&mut self) -> Option<Result<u32, Malformed>> {
+        match char_at(self.text, self.at) {
+            Char::Point(point, next) => {
+                self.at = next;
+                Some(Ok(point))
+            }
+            Char::Malformed => {
+                self.at = self.text.len();
+                Some(Err(Malformed))
+            }
+            Char::End => None,
+        }
+    }
+}
+
+// A unit of 16 bits, the lower byte first.
+fn unit(u: u32) -> [u8; 2]
+    ensures { result ≡ utf16.unit u }
 {
-    (unit / 256 % 256) as u8
+    ((u % 0x1_0000) as u16).to_le_bytes()
 }
 
 // A code point in UTF-16LE. Above 10FFFF, which no text has, it is what the formula gives.
@@ -185,8 +285,7 @@ pub fn utf16le(point: u32) -> Units
     ensures { result ≡ units point }
 {
     if point < 0x1_0000 {
-        let first = lower(point);
-        let second = upper(point);
+        let [first, second] = unit(point);
         return Units {
             bytes: [first, second, 0, 0],
             len: 2,
@@ -195,125 +294,83 @@ pub fn utf16le(point: u32) -> Units
     let bits = point - 0x1_0000;
     let high = 0xD800 + bits / 0x400;
     let low = 0xDC00 + bits % 0x400;
+    let [first, second] = unit(high);
+    let [third, fourth] = unit(low);
     Units {
-        bytes: [lower(high), upper(high), lower(low), upper(low)],
+        bytes: [first, second, third, fourth],
         len: 4,
     }
 }
 
-// How many bytes a text takes in UTF-16LE.
-pub fn utf16le_len(text: &[u8]) -> Length
+// How many bytes a text takes in UTF-16LE, or none where it is not well formed.
+pub fn utf16le_len(text: &[u8]) -> Option<usize>
     ensures { result ≡ length_of (encoded text.now) }
 {
-    let mut at: usize = 0;
     let mut len: usize = 0;
-    loop {
-        match char_at(text, at) {
-            Char::Point(point, next) => {
-                len += utf16le(point).len;
-                at = next;
-            }
-            Char::Malformed => return Length::Malformed,
-            Char::End => return Length::Bytes(len),
-        }
+    for point in Chars::new(text) {
+        len += utf16le(point.ok()?).len;
     }
+    Some(len)
 }
 
 // Whether a text is well-formed UTF-8.
 pub fn well_formed(text: &[u8]) -> bool
     ensures { result ≡ well_formed text.now }
 {
-    match utf16le_len(text) {
-        Length::Bytes(_) => true,
-        Length::Malformed => false,
-    }
-}
-
-// Copies the bytes of a code point to an offset of out.
-fn put(out: &mut [u8], at: usize, units: Units)
-    requires { (units.len ≤ 4) × (at + units.len ≤ length out.old) }
-    ensures { out.new ≡ paste out.old at units.bytes units.len }
-{
-    let bytes = units.bytes;
-    let len = units.len;
-    let mut k: usize = 0;
-    while k < len {
-        out[at + k] = bytes[k];
-        k += 1;
-    }
+    utf16le_len(text).is_some()
 }
 
 // Writes a text in UTF-16LE to a buffer that it fills.
 fn put_text(text: &[u8], out: &mut [u8])
-    requires { length_of (encoded text.now) ≡ Length.Bytes (length out.old) }
-    ensures { encoded text.now ≡ some out.new }
+    requires { length_of (encoded text.now) ≡ Some (length out.old) }
+    ensures { encoded text.now ≡ Some out.new }
 {
-    let mut at: usize = 0;
+    // Kept by an offset: the parts of out differ in length, so no `chunks_mut` gives them.
     let mut n: usize = 0;
-    loop {
-        match char_at(text, at) {
-            Char::Point(point, next) => {
-                let units = utf16le(point);
-                put(out, n, units);
-                n += units.len;
-                at = next;
-            }
-            Char::Malformed => return,
-            Char::End => return,
-        }
+    for point in Chars::new(text) {
+        let Ok(point) = point else { return };
+        let units = utf16le(point);
+        let end = n + units.len;
+        out[n..end].copy_from_slice(units.as_slice());
+        n = end;
     }
 }
 
-// Writes a text in UTF-16LE to the start of out, or leaves out as it is.
-pub fn utf16le_password(text: &[u8], out: &mut [u8]) -> Encoded
-    ensures { (result ≡ (into (encoded text.now) out.old).answer) × (out.new ≡ (into (encoded text.now) out.old).out) }
+// Writes a text in UTF-16LE to the start of out and returns how many bytes that are, or leaves out as it is.
+pub fn utf16le_password(text: &[u8], out: &mut [u8]) -> Result<usize, EncodeError>
+    ensures answer { result ≡ (into (encoded text.now) out.old).answer }
+    ensures out { out.new ≡ (into (encoded text.now) out.old).out }
 {
-    match utf16le_len(text) {
-        Length::Malformed => Encoded::Malformed,
-        Length::Bytes(n) => {
-            if out.len() < n {
-                return Encoded::Short(n);
-            }
-            put_text(text, &mut out[..n]);
-            Encoded::Bytes(n)
-        }
+    let n = utf16le_len(text).ok_or(EncodeError::Malformed)?;
+    if out.len() < n {
+        return Err(EncodeError::Short(n));
     }
-}
-
-// The result where there is no XOR password.
-fn no_password() -> AnsiPassword
-    ensures { result ≡ ansi_of none }
-{
-    AnsiPassword {
-        bytes: [0u8; 16],
-        len: 0,
-    }
+    put_text(text, &mut out[..n]);
+    Ok(n)
 }
 
 // The bytes of an XOR password: 1 to 15 characters up to U+00FF, one byte each, or none.
-pub fn ansi_password(text: &[u8]) -> AnsiPassword
-    ensures { result ≡ ansi_of (ansi text.now) }
+pub fn ansi_password(text: &[u8]) -> Option<AnsiPassword>
+    ensures { result ≡ ansi text.now }
 {
+    // Kept as an array and a count: fixed memory, so there is no Vec to push to.
     let mut bytes = [0u8; 16];
     let mut len: usize = 0;
-    let mut at: usize = 0;
-    loop {
-        match char_at(text, at) {
-            Char::Point(point, next) => {
-                if 0xFF < point {
-                    return no_password();
-                }
-                if limits::XOR_PASSWORD_MAX_LEN <= len {
-                    return no_password();
-                }
-                bytes[len] = point as u8;
-                len += 1;
-                at = next;
-            }
-            Char::Malformed => return no_password(),
-            Char::End => return AnsiPassword { bytes, len },
+    for point in Chars::new(text) {
+        let point = point.ok()?;
+        if 0xFF < point {
+            return None;
         }
+        if limits::XOR_PASSWORD_MAX_LEN <= len {
+            return None;
+        }
+        bytes[len] = point as u8;
+        len += 1;
     }
+    if len == 0 {
+        return None;
+    }
+    Some(AnsiPassword { bytes, len })
 }
 
 // Zeroes the first n bytes, and returns true; where there are fewer, returns false and leaves them.
@@ -323,10 +380,6 @@ pub fn wipe(buf: &mut [u8], n: usize) -> bool
     if buf.len() < n {
         return false;
     }
-    let mut i: usize = 0;
-    while i < n {
-        buf[i] = 0;
-        i += 1;
-    }
+    buf[..n].fill(0);
     true
 }

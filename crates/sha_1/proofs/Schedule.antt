@@ -6,12 +6,11 @@ use Prim.Native.Nat.{ℕ, ◌+◌, ◌-◌, ◌*◌, ◌≤◌, ◌<◌}
 use native.Mathlib.Numerals.{add-one}
 use native.Mathlib.Omega.{arith}
 use lib.Bits.{bit_xor}
-use lib.ListN.{length, get_or, take, drop, set}
+use lib.ListN.{length, get_or, take, set}
 use lib.Seq.{take-suc-set, get_or-take}
 use borrow.Author.Tests.{lt-ltb, le-ltb}
 use Rattle.laws.proofs.Choice.{taken, left}
 use Rattle.word.specs.Word.{rotl, be32, from_be}
-use Rattle.word.proofs.Part.{be32_part}
 use Rattle.sha_1.specs.Sha1.{schedule}
 
 low : (m : List ℕ) (t : ℕ) → t < 16 → schedule m (t + 1) ≡ schedule m t ++ (be32 m (t * 4) ∷ [])
@@ -26,12 +25,12 @@ unfolding schedule
 high m t h = rw (add-one t) (ap (λ (x : ℕ). schedule m t ++ (x ∷ [])) (left _ _ (le-ltb t 16 h)))
 
 -- a word that is loaded is the schedule's
-pub load_more : (m w : List ℕ) (at t x : ℕ) → t < 16 → length w ≡ 80 → take t w ≡ schedule (take 64 (drop at m)) t
-    → x ≡ from_be (get_or m (at + t * 4) 0) (get_or m (at + t * 4 + 1) 0) (get_or m (at + t * 4 + 2) 0) (get_or m (at + t * 4 + 3) 0)
-    → take (t + 1) (set w t x) ≡ schedule (take 64 (drop at m)) (t + 1)
-load_more m w at t x h l e g =
-    rw (low (take 64 (drop at m)) t h, be32_part m at 64 (t * 4) (omega arith))
-    (ap (λ (n : ℕ). take n (set w t x)) (add-one t) ∙ take-suc-set w t x (omega arith) ∙ rw (e, g))
+pub load_more : (m w : List ℕ) (t x : ℕ) → t < 16 → length w ≡ 80 → take t w ≡ schedule m t
+    → x ≡ from_be (get_or m (t * 4) 0) (get_or m (t * 4 + 1) 0) (get_or m (t * 4 + 2) 0) (get_or m (t * 4 + 3) 0)
+    → take (t + 1) (set w t x) ≡ schedule m (t + 1)
+unfolding be32
+load_more m w t x h l e g =
+    rw (low m t h) (ap (λ (n : ℕ). take n (set w t x)) (add-one t) ∙ take-suc-set w t x (omega arith) ∙ rw (e, g))
 
 -- so is one that is made of words before it
 pub extend_more : (m w : List ℕ) (t x : ℕ) → 16 ≤ t → t < 80 → length w ≡ 80 → take t w ≡ schedule m t → x ≡ next w t → take (t + 1) (set w t x) ≡ schedule m (t + 1)

@@ -1,32 +1,22 @@
 // SHA-1, by FIPS 180-4. The source takes it from a library, so this is written from the standard.
 #![tactic(auto)]
 
-ghost use Rattle.std.specs.Prelude.{◌≡◌, ◌+◌, ◌/◌, ◌≤◌, List, ℕ, length, take, drop};
+ghost use Rattle.std.specs.Prelude.{◌≡◌, ◌+◌, ◌≤◌, ◌<◌, ℕ, List, length, take};
 ghost use Rattle.sha_1.specs.declared.State.{State};
-ghost use Rattle.padding.specs.Padding.{blocks, hash_end, be64};
-ghost use Rattle.sha_1.specs.Sha1.{ch, parity, maj, start, schedule, turned, rounds, added, compressed, output, sha1};
+ghost use Rattle.padding.specs.Padding.{hash_end, be64};
+ghost use Rattle.padding.proofs.Size.{length_be64, be64_mod};
+ghost use Rattle.sha_1.specs.Sha1.{f, k, ch, parity, maj, start, schedule, turned, rounds, added, compressed, output, sha1};
+
+use padding::BlockHash;
 
 // A hash value: FIPS 180-4's five words H0 to H4. In the rounds, its working variables a to e.
-#[derive(Clone, Copy)]
+#[derive(Clone, Copy, Debug, PartialEq, Eq)]
 pub struct State {
     pub h0: u32,
     pub h1: u32,
     pub h2: u32,
     pub h3: u32,
     pub h4: u32,
-}
-
-// The initial hash value.
-pub fn init() -> State
-    ensures { result ≡ start }
-{
-    State {
-        h0: 0x6745_2301,
-        h1: 0xefcd_ab89,
-        h2: 0x98ba_dcfe,
-        h3: 0x1032_5476,
-        h4: 0xc3d2_e1f0,
-    }
 }
 
 // FIPS 180-4's functions Ch, Parity and Maj.
@@ -63,87 +53,48 @@ fn turn(v: State, f: u32, k: u32, w: u32) -> State
     }
 }
 
-// Rounds 0 to 19.
-fn rounds_ch(v: State, w: &[u32; 80]) -> State
-    ensures { result ≡ rounds w.now v 20 }
+// Twenty rounds from one on, which have one function and one constant.
+#[inline(always)]
+fn twenty<F: Fn(u32, u32, u32) -> u32>(
+    v: State,
+    w: &[u32; 80],
+    from: usize,
+    constant: u32,
+    mix: F,
+) -> State
+    requires callable { F.IsAlwaysCallable mix }
+    requires room { from ≤ 60 }
+    requires function { (t x y z r : ℕ) → from ≤ t → t < from + 20 → F.post mix x y z r → r ≡ f t x y z }
+    requires told { (t : ℕ) → from ≤ t → t < from + 20 → constant ≡ k t }
+    ensures { (u : State) → v ≡ rounds w.now u from → result ≡ rounds w.now u (from + 20) }
 {
     let mut v = v;
-    let mut t = 0;
-    while t < 20 {
-        let f = ch(v.h1, v.h2, v.h3);
-        v = turn(v, f, 0x5a82_7999, w[t]);
-        t += 1;
+    for t in from..from + 20 {
+        v = turn(v, mix(v.h1, v.h2, v.h3), constant, w[t]);
     }
     v
 }
 
-// Rounds 20 to 39.
-fn rounds_parity(v: State, w: &[u32; 80]) -> State
-    ensures { (u : State) → v ≡ rounds w.now u 20 → result ≡ rounds w.now u 40 }
-{
-    let mut v = v;
-    let mut t = 20;
-    while t < 40 {
-        let f = parity(v.h1, v.h2, v.h3);
-        v = turn(v, f, 0x6ed9_eba1, w[t]);
-        t += 1;
-    }
-    v
-}
-
-// Rounds 40 to 59.
-fn rounds_maj(v: State, w: &[u32; 80]) -> State
-    ensures { (u : State) → v ≡ rounds w.now u 40 → result ≡ rounds w.now u 60 }
-{
-    let mut v = v;
-    let mut t = 40;
-    while t < 60 {
-        let f = maj(v.h1, v.h2, v.h3);
-        v = turn(v, f, 0x8f1b_bcdc, w[t]);
-        t += 1;
-    }
-    v
-}
-
-// Rounds 60 to 79.
-fn rounds_last(v: State, w: &[u32; 80]) -> State
-    ensures { (u : State) → v ≡ rounds w.now u 60 → result ≡ rounds w.now u 80 }
-{
-    let mut v = v;
-    let mut t = 60;
-    while t < 80 {
-        let f = parity(v.h1, v.h2, v.h3);
-        v = turn(v, f, 0xca62_c1d6, w[t]);
-        t += 1;
-    }
-    v
-}
-
-// The words of the block at an offset, in the first 16 of 80.
-fn load(m: &[u8], at: usize) -> [u32; 80]
-    requires { at + 64 ≤ length m.now }
-    ensures { (length result ≡ 80) × (take 16 result ≡ schedule (take 64 (drop at m.now)) 16) }
+// The words of a block, in the first 16 of 80.
+fn load(block: &[u8; 64]) -> [u32; 80]
+    ensures { (length result ≡ 80) × (take 16 result ≡ schedule block.now 16) }
 {
     let mut w = [0u32; 80];
-    let mut t = 0;
-    while t < 16 {
-        let p = at + t * 4;
-        w[t] = word::from_be_bytes(m[p], m[p + 1], m[p + 2], m[p + 3]);
-        t += 1;
+    for t in 0..16 {
+        let p = t * 4;
+        w[t] = word::from_be_bytes(block[p], block[p + 1], block[p + 2], block[p + 3]);
     }
     w
 }
 
 // Sixteen more words of the schedule.
-fn extend(w: &mut [u32], from: usize)
-    requires { (length w.old ≡ 80) × (16 ≤ from) × (from ≤ 64) }
+fn extend(w: &mut [u32; 80], from: usize)
+    requires { (16 ≤ from) × (from ≤ 64) }
     ensures { (m : List ℕ) → take from w.old ≡ schedule m from → take (from + 16) w.new ≡ schedule m (from + 16) }
 {
-    let mut t = from;
-    while t < from + 16 {
+    for t in from..from + 16 {
         let x = w[t - 3] ^ w[t - 8] ^ w[t - 14] ^ w[t - 16];
         w[t] = word::rotate_left(x, 1);
-        t += 1;
     }
 }
 
@@ -160,75 +111,81 @@ fn add(h: State, v: State) -> State
     }
 }
 
-// The hash value after the block at an offset.
-fn compress_at(h: State, m: &[u8], at: usize) -> State
-    requires { at + 64 ≤ length m.now }
-    ensures { result ≡ compressed h (take 64 (drop at m.now)) }
-{
-    let mut w = load(m, at);
-    extend(&mut w, 16);
-    extend(&mut w, 32);
-    extend(&mut w, 48);
-    extend(&mut w, 64);
-    let v = rounds_ch(h, &w);
-    let v = rounds_parity(v, &w);
-    let v = rounds_maj(v, &w);
-    let v = rounds_last(v, &w);
-    add(h, v)
+impl BlockHash for State {
+    type Digest = [u8; 20];
+
+    ghost initial = { start };
+
+    ghost after_block = { compressed };
+
+    ghost size_bytes = { be64 };
+
+    ghost digest_of = { output };
+
+    ghost eight = { length_be64 };
+
+    ghost low_bits = { be64_mod };
+
+    // The initial hash value.
+    fn init() -> State {
+        State {
+            h0: 0x6745_2301,
+            h1: 0xefcd_ab89,
+            h2: 0x98ba_dcfe,
+            h3: 0x1032_5476,
+            h4: 0xc3d2_e1f0,
+        }
+    }
+
+    fn compress(self, block: &[u8; 64]) -> State {
+        let mut w = load(block);
+        // Kept as four calls: one loop over words 16 to 79 keeps them in memory, and is slower (321 against 464 MB/s).
+        extend(&mut w, 16);
+        extend(&mut w, 32);
+        extend(&mut w, 48);
+        extend(&mut w, 64);
+        let v = twenty(self, &w, 0, 0x5a82_7999, ch);
+        let v = twenty(v, &w, 20, 0x6ed9_eba1, parity);
+        let v = twenty(v, &w, 40, 0x8f1b_bcdc, maj);
+        let v = twenty(v, &w, 60, 0xca62_c1d6, parity);
+        add(self, v)
+    }
+
+    fn size(total: u64) -> [u8; 8] {
+        padding::size_be(total)
+    }
+
+    // A hash value as bytes.
+    fn to_digest(self) -> [u8; 20] {
+        let a = word::to_be_bytes(self.h0);
+        let b = word::to_be_bytes(self.h1);
+        let c = word::to_be_bytes(self.h2);
+        let d = word::to_be_bytes(self.h3);
+        let e = word::to_be_bytes(self.h4);
+        [
+            a[0], a[1], a[2], a[3], b[0], b[1], b[2], b[3], c[0], c[1], c[2], c[3], d[0], d[1],
+            d[2], d[3], e[0], e[1], e[2], e[3],
+        ]
+    }
 }
 
 // The hash value after one block.
 pub fn compress(h: State, block: &[u8; 64]) -> State
     ensures { result ≡ compressed h block.now }
 {
-    compress_at(h, block, 0)
-}
-
-// The hash value after the whole blocks of a message.
-pub fn compress_all(h: State, m: &[u8]) -> State
-    ensures { result ≡ blocks compressed h m.now (length m.now / 64) }
-{
-    let mut v = h;
-    let mut i = 0;
-    while i < m.len() / 64 {
-        v = compress_at(v, m, i * 64);
-        i += 1;
-    }
-    v
-}
-
-// A hash value as bytes.
-fn to_bytes(h: State) -> [u8; 20]
-    ensures { result ≡ output h }
-{
-    let a = word::to_be_bytes(h.h0);
-    let b = word::to_be_bytes(h.h1);
-    let c = word::to_be_bytes(h.h2);
-    let d = word::to_be_bytes(h.h3);
-    let e = word::to_be_bytes(h.h4);
-    [
-        a[0], a[1], a[2], a[3], b[0], b[1], b[2], b[3], c[0], c[1], c[2], c[3], d[0], d[1], d[2],
-        d[3], e[0], e[1], e[2], e[3],
-    ]
+    h.compress(block)
 }
 
 // The digest of a message of `total` bytes that ends in m, from the hash value that the blocks before m gave.
 pub fn finish(h: State, m: &[u8], total: u64) -> [u8; 20]
     ensures { result ≡ output (hash_end compressed be64 h m.now total) }
 {
-    let v = compress_all(h, m);
-    let end = padding::pad(m, padding::size_be(total));
-    let bytes = end.bytes;
-    let v = compress_at(v, &bytes, 0);
-    if end.len == 64 {
-        return to_bytes(v);
-    }
-    to_bytes(compress_at(v, &bytes, 64))
+    padding::finish(h, m, total)
 }
 
 // The digest of a message.
 pub fn digest(m: &[u8]) -> [u8; 20]
     ensures { result ≡ sha1 m.now }
 {
-    finish(init(), m, m.len() as u64)
+    padding::digest::<State>(m)
 }

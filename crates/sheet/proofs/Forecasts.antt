@@ -1,52 +1,52 @@
 -- The forecast in C, from `forecast`: a number is 0 where nothing is refused, and the facts are those of the counts, of the report, or of the refusal.
 -- Assumes nothing.
+use Rattle.std.specs.Prelude.{Ok, Err, Result}
+use Rattle.file_params.specs.declared.Refusal.{Refusal}
+use Rattle.excel97.specs.declared.Report.{Report}
+use Rattle.forecast.specs.declared.Counts.{Counts}
 use mathlib.Core.Path.{◌≡◌, refl, sym, ap}
 use mathlib.Core.List.{List}
 use Prim.Native.Nat.{ℕ, ◌+◌, ◌*◌, ◌≤◌}
 use lib.ListN.{length, get_or}
 use Rattle.binary_office.specs.Walk.{remainder}
-use Rattle.excel97.specs.declared.Answer.{Answer}
-use Rattle.excel97.specs.declared.Answer.TheVariants.{Opened, Refused}
 use Rattle.excel97.specs.Open.{outcome, Opens}
-use Rattle.forecast.specs.declared.Answer as forecast
-use Rattle.forecast.specs.declared.Answer.TheVariants as foretold
 use Rattle.forecast.specs.Forecast.{forecast}
 use Rattle.forecast.specs.Theorems.{SameRefusals}
 use Rattle.forecast.proofs.Proved.{forecasts}
-use Rattle.sheet.specs.Facts.{forecast_number, forecast_facts, open_number, open_facts, OpensInC}
+use Rattle.sheet.specs.Facts.{number_of, forecast_facts, open_facts, OpensInC}
 use Rattle.sheet.specs.Forecasts.{SameFour, SameRefusal, OfAnyRunInC}
 use Rattle.sheet.proofs.Numbers.{not_refused}
 
 -- what a forecast tells lies within the stream
-in_stream : (stream : List ℕ) (f : forecast.Answer) → forecast stream ≡ f → forecast_number f ≡ 0
+in_stream : (stream : List ℕ) (f : (Result Counts Refusal)) → forecast stream ≡ f → number_of f ≡ 0
     → get_or (forecast_facts f) 2 0 + 4 * get_or (forecast_facts f) 1 0 + length (remainder stream) ≤ length stream
-in_stream stream (foretold.Told c) e z = (forecasts.counts stream c e).within
-in_stream stream (foretold.Refused r) e z = not_refused r z
+in_stream stream (Ok c) e z = (forecasts.counts stream c e).within
+in_stream stream (Err r) e z = not_refused r z
 
 -- two answers that refuse alike
-by_answers : (f : forecast.Answer) (a : Answer) → SameRefusals f a → SameRefusal (forecast_number f) (open_number a) (forecast_facts f) (open_facts a)
+by_answers : (f : (Result Counts Refusal)) (a : (Result Report Refusal)) → SameRefusals f a → SameRefusal (number_of f) (number_of a) (forecast_facts f) (open_facts a)
 by_answers f a s = record { to = to f refl; from = from a refl }
   where
-    to : (g : forecast.Answer) → f ≡ g → (forecast_number g ≡ 0 → ⊥)
-        → (open_number a ≡ forecast_number g) × (open_facts a ≡ forecast_facts g) × (forecast_number g ≡ 27 → ⊥)
-    to (foretold.Told c) e n = absurd (n refl)
-    to (foretold.Refused r) e n = let h = s.to r e in (ap open_number h.0, ap open_facts h.0, h.1)
+    to : (g : (Result Counts Refusal)) → f ≡ g → (number_of g ≡ 0 → ⊥)
+        → (number_of a ≡ number_of g) × (open_facts a ≡ forecast_facts g) × (number_of g ≡ 27 → ⊥)
+    to (Ok c) e n = absurd (n refl)
+    to (Err r) e n = let h = s.to r e in (ap number_of h.0, ap open_facts h.0, h.1)
 
-    from : (b : Answer) → a ≡ b → (open_number b ≡ 0 → ⊥) → (open_number b ≡ 27 → ⊥) → (forecast_number f ≡ open_number b) × (forecast_facts f ≡ open_facts b)
-    from (Opened x) e n m = absurd (n refl)
-    from (Refused r) e n m = let h = s.from r e m in (ap forecast_number h, ap forecast_facts h)
+    from : (b : (Result Report Refusal)) → a ≡ b → (number_of b ≡ 0 → ⊥) → (number_of b ≡ 27 → ⊥) → (number_of f ≡ number_of b) × (forecast_facts f ≡ open_facts b)
+    from (Ok x) e n m = absurd (n refl)
+    from (Err r) e n m = let h = s.from r e m in (ap number_of h, ap forecast_facts h)
 
 module _ (stream password scratch output : List ℕ) (answer : ℕ) (scratch' output' told : List ℕ) (run : OpensInC stream password scratch output answer scratch' output' told) where
-  runs : (a : Answer) → (outcome stream password scratch output).answer ≡ a → Opens stream password scratch output a scratch' output'
+  runs : (a : (Result Report Refusal)) → (outcome stream password scratch output).answer ≡ a → Opens stream password scratch output a scratch' output'
   runs a e = record { answered = sym e; scratch_left = run.scratch_left; output_left = run.output_left }
 
-  by_report : (a : Answer) → (outcome stream password scratch output).answer ≡ a → open_number a ≡ 0
-      → (forecast_number (forecast stream) ≡ 0) × SameFour (forecast_facts (forecast stream)) (open_facts a)
-  by_report (Refused r) e z = not_refused r z
-  by_report (Opened x) e z =
-      let h = forecasts.of_any_run stream password scratch output x scratch' output' (runs (Opened x) e) in
+  by_report : (a : (Result Report Refusal)) → (outcome stream password scratch output).answer ≡ a → number_of a ≡ 0
+      → (number_of (forecast stream) ≡ 0) × SameFour (forecast_facts (forecast stream)) (open_facts a)
+  by_report (Err r) e z = not_refused r z
+  by_report (Ok x) e z =
+      let h = forecasts.of_any_run stream password scratch output x scratch' output' (runs (Ok x) e) in
       let same = h.2 in (
-        ap forecast_number h.1,
+        ap number_of h.1,
         rw h.1 (record { output = same.output; records = same.records; enciphered = same.enciphered; keys = same.keys }),
       )
 

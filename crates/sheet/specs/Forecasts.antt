@@ -5,7 +5,7 @@ use Rattle.std.specs.Prelude.{◌≡◌, ℕ, ◌+◌, ◌*◌, ◌≤◌, true,
 use Rattle.sensitive.specs.Utf8.{well_formed}
 use Rattle.binary_office.specs.Walk.{remainder}
 use Rattle.forecast.specs.Forecast.{forecast}
-use Rattle.sheet.specs.Facts.{forecast_number, forecast_facts, OpensInC}
+use Rattle.sheet.specs.Facts.{number_of, forecast_facts, OpensInC}
 
 -- facts[0] to facts[3] of `sheet_forecast` are facts[4], [0], [5] and [6] of `sheet_open`
 pub record SameFour (foretold told : List ℕ) : Type 0 where
@@ -28,6 +28,6 @@ pub record ForecastsInC (stream password scratch output : List ℕ) (n answer : 
 abbrev pub OfAnyRunInC : Type 0
 OfAnyRunInC =
     (stream password scratch output : List ℕ) (n : ℕ) (foretold : List ℕ) (answer : ℕ) (scratch' output' told : List ℕ)
-    → n ≡ forecast_number (forecast stream) → foretold ≡ forecast_facts (forecast stream)
+    → n ≡ number_of (forecast stream) → foretold ≡ forecast_facts (forecast stream)
     → OpensInC stream password scratch output answer scratch' output' told
     → ForecastsInC stream password scratch output n answer foretold told

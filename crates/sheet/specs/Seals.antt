@@ -1,7 +1,6 @@
 -- Sealing in C, beside any run of `sheet_open`: document 02, T-07. The three functions that seal differ in the choice alone.
 -- Assumes nothing.
-use Rattle.std.specs.Prelude.{◌≡◌, ℕ, ◌≤◌, true, List, length, take, drop}
-use Rattle.std.proofs.Math.Option.{none}
+use Rattle.std.specs.Prelude.{◌≡◌, ℕ, ◌≤◌, true, List, length, take, drop, None}
 use Rattle.file_params.specs.Questions.{asked, filepass_body}
 use Rattle.sealing.specs.declared.Choice.{Choice}
 use Rattle.sealing.specs.Filepass.{filepass_for}
@@ -28,7 +27,7 @@ pub record SealsAndOpensInC : Type 0 where
   pub seals : (stream password scratch output scratch₁ output₁ told : List ℕ) → Bytes stream
       → OpensInC stream password scratch output 0 scratch₁ output₁ told
       → (choice : Choice) (salt verifier : List ℕ) → length salt ≡ 16 → length verifier ≡ 16
-      → asked (admitted choice) ≡ none → fits choice (length (filepass_body stream)) ≡ true
+      → asked (admitted choice) ≡ None → fits choice (length (filepass_body stream)) ≡ true
       → filepass_body stream ≡ filepass_for choice password salt verifier (length (filepass_body stream))
       → (scratch₂ output₂ : List ℕ) (n : ℕ) (scratch₃ output₃ facts : List ℕ) → 64 ≤ length scratch₂ → length stream ≤ length output₂
       → SealsInC (take (length stream) output₁) password choice salt verifier scratch₂ output₂ n scratch₃ output₃ facts

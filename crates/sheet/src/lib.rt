@@ -9,14 +9,20 @@ ghost use Rattle.binary_office.specs.Look.{look};
 ghost use Rattle.binary_office.specs.SameLock.{same_lock};
 ghost use Rattle.directory.specs.Directory.{directory};
 ghost use Rattle.forecast.specs.Forecast.{forecast};
-ghost use Rattle.sheet.specs.Facts.{flag, facts, look_number, look_facts, record_number, record_facts, start_facts, refusal_facts, directory_number, directory_facts, forecast_number, forecast_facts, bits_of, there_of, major_of, minor_of, lock_number, open_number, open_facts, OpensInC, as_opened, SealsInC};
+ghost use Rattle.sheet.specs.Facts.{flag, facts, look_number, look_facts, record_number, record_facts, start_facts, refusal_facts, number_of, directory_facts, forecast_facts, there_of, major_of, minor_of, lock_number, open_facts, OpensInC, SealsInC};
 ghost use Rattle.sealing.specs.declared.Choice.TheVariants as choice;
+
+use binary_office::{Step, Verdict, Version};
+use directory::Sheets;
+use excel97::{Lock, Report};
+use file_params::Refusal;
+use forecast::Counts;
 
 // True is 1.
 fn flag(b: bool) -> u64
     ensures { result ≡ flag b }
 {
-    if b { 1 } else { 0 }
+    u64::from(b)
 }
 
 // Eight facts, of which five are used at most.
@@ -26,194 +32,154 @@ fn facts(a: u64, b: u64, c: u64, d: u64, e: u64) -> [u64; 8]
     [a, b, c, d, e, 0, 0, 0]
 }
 
-// The key size, 0 for none.
-fn bits_of(size: binary_office::KeySize) -> u64
-    ensures { result ≡ bits_of size }
-{
-    match size {
-        binary_office::KeySize::NoSize => 0,
-        binary_office::KeySize::Bits(bits) => bits as u64,
-    }
-}
-
 // The facts of a lock whose version is there or not.
-fn by_version(xor: bool, version: binary_office::Version, bits: u64) -> [u64; 8]
+fn by_version(xor: bool, version: Option<Version>, bits: u64) -> [u64; 8]
     ensures { result ≡ facts (flag xor) (there_of version) (major_of version) (minor_of version) bits }
 {
     let mark = flag(xor);
     match version {
-        binary_office::Version::NoVersion => facts(mark, 0, 0, 0, bits),
-        binary_office::Version::Pair(major, minor) => facts(
+        None => facts(mark, 0, 0, 0, bits),
+        Some(version) => facts(
             mark,
             1,
-            major as u64,
-            minor as u64,
+            u64::from(version.major),
+            u64::from(version.minor),
             bits,
         ),
     }
 }
 
 // The facts of a verdict.
-fn look_facts(verdict: binary_office::Verdict) -> [u64; 8]
+fn look_facts(verdict: Verdict) -> [u64; 8]
     ensures { result ≡ look_facts verdict }
 {
     match verdict {
-        binary_office::Verdict::Unknown => facts(0, 0, 0, 0, 0),
-        binary_office::Verdict::No => facts(0, 0, 0, 0, 0),
-        binary_office::Verdict::Yes(lock) => {
-            let version = lock.version;
-            let size = lock.key_size;
-            let bits = bits_of(size);
-            by_version(lock.xor, version, bits)
+        Verdict::Unknown => facts(0, 0, 0, 0, 0),
+        Verdict::No => facts(0, 0, 0, 0, 0),
+        Verdict::Yes(lock) => {
+            let bits = u64::from(lock.key_size.unwrap_or(0));
+            by_version(lock.xor, lock.version, bits)
         }
     }
 }
 
 // The number of a verdict.
-fn look_number(verdict: binary_office::Verdict) -> u32
+fn look_number(verdict: Verdict) -> u32
     ensures { result ≡ look_number verdict }
 {
     match verdict {
-        binary_office::Verdict::Unknown => 0,
-        binary_office::Verdict::No => 1,
-        binary_office::Verdict::Yes(_) => 2,
+        Verdict::Unknown => 0,
+        Verdict::No => 1,
+        Verdict::Yes(_) => 2,
     }
 }
 
 // The facts of what is at an offset.
-fn record_facts(step: binary_office::Step) -> [u64; 8]
+fn record_facts(step: Step) -> [u64; 8]
     ensures { result ≡ record_facts step }
 {
     match step {
-        binary_office::Step::Record(id, len) => {
+        Step::Record(id, len) => {
             let clear = binary_office::clear_len(id, len);
-            facts(id as u64, len as u64, clear as u64, 0, 0)
+            facts(u64::from(id), u64::from(len), u64::from(clear), 0, 0)
         }
-        binary_office::Step::Fault(at) => facts(at as u64, 0, 0, 0, 0),
-        binary_office::Step::End => facts(0, 0, 0, 0, 0),
+        Step::Fault(at) => facts(at as u64, 0, 0, 0, 0),
+        Step::End => facts(0, 0, 0, 0, 0),
     }
 }
 
 // The number of what is at an offset.
-fn record_number(step: binary_office::Step) -> u32
+fn record_number(step: Step) -> u32
     ensures { result ≡ record_number step }
 {
     match step {
-        binary_office::Step::Record(_, _) => 1,
-        binary_office::Step::Fault(_) => 2,
-        binary_office::Step::End => 0,
+        Step::Record(_, _) => 1,
+        Step::Fault(_) => 2,
+        Step::End => 0,
     }
 }
 
-// The facts of a sheet's start, in a stream of so many sheets.
-fn start_facts(count: usize, start: directory::Start) -> [u64; 8]
-    ensures { result ≡ start_facts count start }
+// The number of an answer that a refusal may take the place of.
+fn number_of<T: Copy>(answer: Result<T, Refusal>) -> u32
+    ensures { result ≡ number_of answer }
 {
-    match start {
-        directory::Start::Nothing => facts(count as u64, 0, 0, 0, 0),
-        directory::Start::At(offset) => facts(count as u64, 1, offset as u64, 0, 0),
+    match answer {
+        Ok(_) => 0,
+        Err(refusal) => file_params::number(refusal),
     }
 }
 
 // The facts of a refusal.
-fn refusal_facts(refusal: file_params::Refusal) -> [u64; 8]
+fn refusal_facts(refusal: Refusal) -> [u64; 8]
     ensures { result ≡ refusal_facts refusal }
 {
     let details = file_params::details_of(refusal);
     facts(details.first, details.second, 0, 0, 0)
 }
 
-// The facts of a directory's answer.
-fn directory_facts(answer: directory::Answer) -> [u64; 8]
-    ensures { result ≡ directory_facts answer }
+// The facts of a sheet's start, in a stream of so many sheets.
+fn start_facts(count: usize, start: Option<usize>) -> [u64; 8]
+    ensures { result ≡ start_facts count start }
 {
-    match answer {
-        directory::Answer::Told(sheets) => {
-            let start = sheets.start;
-            start_facts(sheets.count, start)
-        }
-        directory::Answer::Refused(refusal) => refusal_facts(refusal),
+    match start {
+        None => facts(count as u64, 0, 0, 0, 0),
+        Some(offset) => facts(count as u64, 1, offset as u64, 0, 0),
     }
 }
 
-// The number of a directory's answer.
-fn directory_number(answer: directory::Answer) -> u32
-    ensures { result ≡ directory_number answer }
+// The facts of a directory's answer.
+fn directory_facts(answer: Result<Sheets, Refusal>) -> [u64; 8]
+    ensures { result ≡ directory_facts answer }
 {
     match answer {
-        directory::Answer::Told(_) => 0,
-        directory::Answer::Refused(refusal) => file_params::number(refusal),
+        Ok(sheets) => start_facts(sheets.count, sheets.start),
+        Err(refusal) => refusal_facts(refusal),
     }
 }
 
 // The facts of a forecast.
-fn forecast_facts(answer: forecast::Answer) -> [u64; 8]
+fn forecast_facts(answer: Result<Counts, Refusal>) -> [u64; 8]
     ensures { result ≡ forecast_facts answer }
 {
     match answer {
-        forecast::Answer::Told(told) => facts(
+        Ok(told) => facts(
             told.output_bytes as u64,
             told.records as u64,
             told.enciphered_body_bytes as u64,
             told.block_keys as u64,
             0,
         ),
-        forecast::Answer::Refused(refusal) => refusal_facts(refusal),
-    }
-}
-
-// The number of a forecast.
-fn forecast_number(answer: forecast::Answer) -> u32
-    ensures { result ≡ forecast_number answer }
-{
-    match answer {
-        forecast::Answer::Told(_) => 0,
-        forecast::Answer::Refused(refusal) => file_params::number(refusal),
+        Err(refusal) => refusal_facts(refusal),
     }
 }
 
 // The number of a lock.
-fn lock_number(lock: excel97::Lock) -> u64
+fn lock_number(lock: Lock) -> u64
     ensures { result ≡ lock_number lock }
 {
     match lock {
-        excel97::Lock::Xor => 0,
-        excel97::Lock::Office97 => 1,
-        excel97::Lock::CryptoApi => 2,
+        Lock::Xor => 0,
+        Lock::Office97 => 1,
+        Lock::CryptoApi => 2,
     }
 }
 
-// The facts of an answer.
-fn open_facts(answer: excel97::Answer) -> [u64; 8]
+// The facts of the answer of opening or sealing.
+fn open_facts(answer: Result<Report, Refusal>) -> [u64; 8]
     ensures { result ≡ open_facts answer }
 {
     match answer {
-        excel97::Answer::Opened(report) => {
-            let lock = report.lock;
-            let number = lock_number(lock);
-            let sealed = flag(report.summary_sealed);
-            [
-                report.records as u64,
-                number,
-                report.key_bits as u64,
-                sealed,
-                report.output_bytes as u64,
-                report.enciphered_body_bytes as u64,
-                report.block_keys as u64,
-                0,
-            ]
-        }
-        excel97::Answer::Refused(refusal) => refusal_facts(refusal),
-    }
-}
-
-// The number of an answer.
-fn open_number(answer: excel97::Answer) -> u32
-    ensures { result ≡ open_number answer }
-{
-    match answer {
-        excel97::Answer::Opened(_) => 0,
-        excel97::Answer::Refused(refusal) => file_params::number(refusal),
+        Ok(report) => [
+            report.records as u64,
+            lock_number(report.lock),
+            u64::from(report.key_bits),
+            flag(report.summary_sealed),
+            report.output_bytes as u64,
+            report.enciphered_body_bytes as u64,
+            report.block_keys as u64,
+            0,
+        ],
+        Err(refusal) => refusal_facts(refusal),
     }
 }
 
@@ -245,20 +211,20 @@ pub fn sheet_record(stream: &[u8], at: usize, told: &mut [u64; 8]) -> u32
 
 // The directory of sheets.
 pub fn sheet_directory(stream: &[u8], place: usize, told: &mut [u64; 8]) -> u32
-    ensures { (result ≡ directory_number (directory stream.now place)) × (told.new ≡ directory_facts (directory stream.now place)) }
+    ensures { (result ≡ number_of (directory stream.now place)) × (told.new ≡ directory_facts (directory stream.now place)) }
 {
     let answer = directory::directory(stream, place);
     *told = directory_facts(answer);
-    directory_number(answer)
+    number_of(answer)
 }
 
 // What opening will take.
 pub fn sheet_forecast(stream: &[u8], told: &mut [u64; 8]) -> u32
-    ensures { (result ≡ forecast_number (forecast stream.now)) × (told.new ≡ forecast_facts (forecast stream.now)) }
+    ensures { (result ≡ number_of (forecast stream.now)) × (told.new ≡ forecast_facts (forecast stream.now)) }
 {
     let answer = forecast::forecast(stream);
     *told = forecast_facts(answer);
-    forecast_number(answer)
+    number_of(answer)
 }
 
 // Open.
@@ -273,17 +239,7 @@ pub fn sheet_open(
 {
     let answer = excel97::open(stream, password, scratch, output);
     *told = open_facts(answer);
-    open_number(answer)
-}
-
-// The result of sealing, as opening would report it.
-fn as_opened(answer: sealing::Answer) -> excel97::Answer
-    ensures { result ≡ as_opened answer }
-{
-    match answer {
-        sealing::Answer::Sealed(report) => excel97::Answer::Opened(report),
-        sealing::Answer::Refused(refusal) => excel97::Answer::Refused(refusal),
-    }
+    number_of(answer)
 }
 
 // Sealing under a choice, with the facts of its answer.
@@ -299,10 +255,9 @@ fn seal(
 ) -> u32
     ensures { SealsInC plain.now password.now choice salt verifier scratch.old output.old result scratch.new output.new told.new }
 {
-    let sealed = sealing::seal(plain, password, choice, salt, verifier, scratch, output);
-    let answer = as_opened(sealed);
+    let answer = sealing::seal(plain, password, choice, salt, verifier, scratch, output);
     *told = open_facts(answer);
-    open_number(answer)
+    number_of(answer)
 }
 
 // Sealing under XOR, which has neither salt nor verifier.

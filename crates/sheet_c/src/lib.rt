@@ -7,7 +7,7 @@ ghost use Rattle.binary_office.specs.Look.{look};
 ghost use Rattle.binary_office.specs.SameLock.{same_lock};
 ghost use Rattle.directory.specs.Directory.{directory};
 ghost use Rattle.forecast.specs.Forecast.{forecast};
-ghost use Rattle.sheet.specs.Facts.{look_number, look_facts, record_number, record_facts, directory_number, directory_facts, forecast_number, forecast_facts, OpensInC, SealsInC};
+ghost use Rattle.sheet.specs.Facts.{look_number, look_facts, record_number, record_facts, number_of, directory_facts, forecast_facts, OpensInC, SealsInC};
 ghost use Rattle.sealing.specs.declared.Choice.TheVariants as choice;
 
 // Look.
@@ -37,7 +37,7 @@ pub extern "C" fn sheet_record(stream: &[u8], at: usize, told: &mut [u64; 8]) ->
 // The directory of sheets.
 #[unsafe(no_mangle)]
 pub extern "C" fn sheet_directory(stream: &[u8], place: usize, told: &mut [u64; 8]) -> u32
-    ensures { (result ≡ directory_number (directory stream.now place)) × (told.new ≡ directory_facts (directory stream.now place)) }
+    ensures { (result ≡ number_of (directory stream.now place)) × (told.new ≡ directory_facts (directory stream.now place)) }
 {
     sheet::sheet_directory(stream, place, told)
 }
@@ -45,7 +45,7 @@ pub extern "C" fn sheet_directory(stream: &[u8], place: usize, told: &mut [u64; 
 // What opening will take.
 #[unsafe(no_mangle)]
 pub extern "C" fn sheet_forecast(stream: &[u8], told: &mut [u64; 8]) -> u32
-    ensures { (result ≡ forecast_number (forecast stream.now)) × (told.new ≡ forecast_facts (forecast stream.now)) }
+    ensures { (result ≡ number_of (forecast stream.now)) × (told.new ≡ forecast_facts (forecast stream.now)) }
 {
     sheet::sheet_forecast(stream, told)
 }

@@ -3,202 +3,123 @@
 // tools/make_short_books.py makes the data and what is expected.
 #![tactic(auto)]
 
-ghost use Rattle.std.specs.Prelude.{◌≡◌, ◌≤◌, length};
+ghost use Rattle.std.specs.Prelude.{◌≤◌, length};
 
-use samples::{lent_byte, number, part};
+use samples::{Reader, lent_byte};
 use std::io;
 
-fn data_buffer() -> [u8; 393216]
-    ensures { 393216 ≡ length result }
-{
-    [0; 393216]
-}
-
-fn at_most(n: usize, most: usize) -> usize
-    ensures { result ≤ most }
-{
-    if n < most { n } else { most }
+// A case: its name, the stream that is looked at and opened with a password, and the stream of the case before it.
+#[derive(Clone, Copy, Debug)]
+struct Case<'a> {
+    name: &'a [u8],
+    password: &'a [u8],
+    before: &'a [u8],
+    stream: &'a [u8],
 }
 
 // How many bytes at the start of a buffer are zero.
 fn zeros(buffer: &[u8]) -> usize {
-    let mut i = 0;
-    while i < buffer.len() {
-        if buffer[i] != 0 {
-            return i;
-        }
-        i += 1;
-    }
-    i
+    buffer.iter().take_while(|byte| **byte == 0).count()
 }
 
-// How many bytes at the end of a buffer are as they were lent.
-fn untouched(buffer: &[u8]) -> usize
+// How many bytes at the start of a buffer were written: up to the last that is not as it was lent.
+fn written(buffer: &[u8]) -> usize
     ensures { result ≤ length buffer.now }
 {
-    let len = buffer.len();
-    let mut n = 0;
-    while n < len {
-        if buffer[len - 1 - n] != lent_byte(len - 1 - n) {
-            return n;
-        }
-        n += 1;
-    }
-    n
+    let last = buffer
+        .iter()
+        .enumerate()
+        .rposition(|(i, byte)| *byte != lent_byte(i));
+    last.map_or(0, |i| i + 1)
 }
 
-fn word(rt: &impl Print, text: &[u8]) -> io::Result<()> {
-    rt.write_all(text)
-}
-
-fn count(rt: &impl Print, n: usize) -> io::Result<()> {
-    print!(rt; "{n}")
-}
-
-fn hex(rt: &impl Print, byte: u8) -> io::Result<()> {
-    print!(rt; "{byte:02x}")
-}
-
-// Writes an operation's name, its number and the first of its facts.
-fn tell(
-    rt: &impl Print,
-    name: &[u8],
-    answer: u32,
-    facts: &[u64; 8],
-    most: usize,
-) -> io::Result<()> {
-    word(rt, name)?;
-    print!(rt; "{answer}")?;
-    word(rt, b":")?;
-    let mut i = 0;
-    while i < at_most(most, 8) {
-        word(rt, b" ")?;
-        rt.print(facts[i])?;
-        i += 1;
+// Writes an operation's name, its number and its facts.
+fn tell(rt: &impl Print, name: &str, answer: u32, facts: &[u64]) -> io::Result<()> {
+    print!(rt; " {name} {answer}:")?;
+    for fact in facts {
+        print!(rt; " {fact}")?;
     }
     Ok(())
 }
 
 // Writes what is left of the scratch.
 fn tell_scratch(rt: &impl Print, scratch: &[u8]) -> io::Result<()> {
-    word(rt, b" scratch ")?;
-    count(rt, zeros(scratch))?;
-    word(rt, b" zero, ")?;
-    count(rt, untouched(scratch))?;
-    word(rt, b" as lent,")
+    let zero = zeros(scratch);
+    let left = scratch.len() - written(scratch);
+    print!(rt; " scratch {zero} zero, {left} as lent,")
 }
 
 // Writes the output up to the last byte that is not as it was lent.
 fn tell_output(rt: &impl Print, output: &[u8]) -> io::Result<()> {
-    let left = untouched(output);
-    let written = output.len() - left;
-    word(rt, b" output ")?;
-    count(rt, written)?;
-    word(rt, b" written, ")?;
-    count(rt, left)?;
-    word(rt, b" as lent")?;
-    if 0 < written {
-        word(rt, b": ")?;
+    let len = written(output);
+    let left = output.len() - len;
+    print!(rt; " output {len} written, {left} as lent")?;
+    if 0 < len {
+        print!(rt; ": ")?;
     }
-    let mut i = 0;
-    while i < written {
-        hex(rt, output[i])?;
-        i += 1;
+    for byte in &output[..len] {
+        print!(rt; "{byte:02x}")?;
     }
-    word(rt, b"\n")
-}
-
-// Writes whether two streams have the same lock.
-fn tell_same(rt: &impl Print, same: bool) -> io::Result<()> {
-    word(rt, b" same ")?;
-    count(rt, if same { 1 } else { 0 })
+    println!(rt; "")
 }
 
 // Looks at a stream, compares its lock with that of the one before, says what opening will take, and opens it, with what
 // is lent.
-fn run_lent(
-    rt: &impl Print,
-    name: &[u8],
-    password: &[u8],
-    before: &[u8],
-    stream: &[u8],
-    scratch: &mut [u8],
-    output: &mut [u8],
-) -> io::Result<()> {
+fn run_lent(rt: &impl Print, case: Case, scratch: &mut [u8], output: &mut [u8]) -> io::Result<()> {
     let mut seen = [0u64; 8];
     let mut foretold = [0u64; 8];
     let mut told = [0u64; 8];
-    let verdict = sheet::sheet_look(stream, &mut seen);
-    let forecast = sheet::sheet_forecast(stream, &mut foretold);
-    let answer = sheet::sheet_open(stream, password, scratch, output, &mut told);
-    word(rt, name)?;
-    tell(rt, b" look ", verdict, &seen, 5)?;
-    tell_same(rt, sheet::sheet_same_lock(before, stream))?;
-    tell(rt, b" forecast ", forecast, &foretold, 4)?;
-    tell(rt, b" open ", answer, &told, 7)?;
+    let verdict = sheet::sheet_look(case.stream, &mut seen);
+    let same = u8::from(sheet::sheet_same_lock(case.before, case.stream));
+    let forecast = sheet::sheet_forecast(case.stream, &mut foretold);
+    let answer = sheet::sheet_open(case.stream, case.password, scratch, output, &mut told);
+    rt.write_all(case.name)?;
+    tell(rt, "look", verdict, &seen[..5])?;
+    print!(rt; " same {same}")?;
+    tell(rt, "forecast", forecast, &foretold[..4])?;
+    tell(rt, "open", answer, &told[..7])?;
     tell_scratch(rt, scratch)?;
     tell_output(rt, output)
 }
 
 // Runs a case, with a scratch and an output of some lengths.
-fn run(
-    rt: &impl Print,
-    name: &[u8],
-    password: &[u8],
-    before: &[u8],
-    stream: &[u8],
-    scratch_len: usize,
-    output_len: usize,
-) -> io::Result<()> {
+fn run(rt: &impl Print, case: Case, scratch_len: usize, output_len: usize) -> io::Result<()> {
     let mut scratch = [0u8; 8192];
     let mut output = [0u8; 8192];
     samples::lend(&mut scratch);
     samples::lend(&mut output);
-    let s = at_most(scratch_len, 8192);
-    let o = at_most(output_len, 8192);
     run_lent(
         rt,
-        name,
-        password,
-        before,
-        stream,
-        &mut scratch[0..s],
-        &mut output[0..o],
+        case,
+        &mut scratch[..scratch_len.min(8192)],
+        &mut output[..output_len.min(8192)],
     )
 }
 
 // Runs all cases: name, password and stream, each after its length, and the lengths of scratch and output.
 fn run_all(rt: &impl Print, data: &[u8]) -> io::Result<()> {
     let mut cases: u64 = 0;
-    let mut at: usize = 0;
-    let mut before: usize = 0;
-    let mut before_len: usize = 0;
-    while at < data.len() {
-        let name = number(data, at);
-        let password = number(data, at + 4 + name);
-        let stream = number(data, at + 8 + name + password);
-        let start = at + 12 + name + password;
-        let end = start + stream;
-        run(
-            rt,
-            part(data, at + 4, name),
-            part(data, at + 8 + name, password),
-            part(data, before, before_len),
-            part(data, start, stream),
-            number(data, end),
-            number(data, end + 4),
-        )?;
-        cases = std::num::wrapping_add_u64(cases, 1);
-        at = end + 8;
-        before = start;
-        before_len = stream;
+    let mut before: &[u8] = &[];
+    let mut rest = Reader::new(data);
+    while !rest.is_empty() {
+        let name = rest.sized();
+        let password = rest.sized();
+        let stream = rest.sized();
+        let case = Case {
+            name,
+            password,
+            before,
+            stream,
+        };
+        let scratch_len = rest.number();
+        run(rt, case, scratch_len, rest.number())?;
+        cases = cases.wrapping_add(1);
+        before = stream;
     }
-    print!(rt; "{cases}")?;
-    word(rt, b" cases\n")
+    println!(rt; "{cases} cases")
 }
 
 fn main(rt: HostRuntime) -> io::Result<()> {
-    let mut data = data_buffer();
-    let n = samples::read(&rt, b"cases", &mut data);
-    run_all(&rt, &data[0..n])
+    let mut data = [0u8; 393216];
+    run_all(&rt, samples::read(&rt, b"cases", &mut data))
 }

@@ -1,6 +1,5 @@
 pub mod Asked
 pub mod First
-pub mod Groups
 pub mod Locked
 pub mod Records
 pub mod Tallied

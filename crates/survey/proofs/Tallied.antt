@@ -1,9 +1,10 @@
--- What a walk over the whole stream has tallied before an offset, and what it leaves to tally from there on: together the whole.
+-- What a loop over the walk of a stream has tallied, and what is left to tally: together the whole.
 -- Assumes nothing.
-use mathlib.Core.Path.{◌≡◌, refl, sym, ap, ◌∙◌}
+use Rattle.std.specs.Prelude.{None, Some, Option}
+use Rattle.std.specs.Option.{is_some}
+use mathlib.Core.Path.{◌≡◌, refl, sym, ap, subst, ◌∙◌}
 use mathlib.Core.Bool.{Bool, true, false}
 use mathlib.Core.List.{List, [], ◌∷◌}
-use mathlib.Core.Option.{none, some}
 use Prim.Native.Nat.{ℕ, ◌+◌, ◌*◌, ◌≤◌}
 use native.Mathlib.Nat.{zero-add, add-zero}
 use native.Mathlib.Numerals.{add-one}
@@ -13,37 +14,32 @@ use lib.Dec.{eqb}
 use lib.ListN.{length, length-drop}
 use Rattle.laws.specs.Choice.{pick}
 use Rattle.binary_office.specs.declared.Step.TheVariants as step
-use Rattle.binary_office.specs.declared.WalkEnd.{WalkEnd}
-use Rattle.binary_office.specs.declared.WalkEnd.TheVariants as end
-use Rattle.binary_office.specs.Walk.{BiffRecord, Walk, step_at, walk_at, walk, end_from, records_end, remainder, never_encrypted}
-use Rattle.binary_office.proofs.Walks.{record_within, walk_end, walk_fault}
-use Rattle.binary_office.proofs.Along.{records_on, ends_on, end_on, end_within, records_end_lem, records_fault, along}
+use Rattle.binary_office.specs.declared.BiffRecord.{BiffRecord}
+use Rattle.binary_office.specs.Walk.{Walk, behind, step_at, walk_at, walk, end_from, records_end, remainder, never_encrypted}
+use Rattle.binary_office.proofs.Walks.{Counted, counted_none, counted_more, counted_fault}
+use Rattle.binary_office.proofs.Along.{records_on, end_on, end_within, records_end_lem, records_fault, along}
 use Rattle.file_params.specs.Questions.{filepass, other_id}
-use Rattle.survey.specs.declared.Found.{Found}
-use Rattle.survey.specs.declared.Found.TheVariants as found
-use Rattle.survey.specs.declared.Other.{Other}
-use Rattle.survey.specs.declared.Other.TheVariants as other
 use Rattle.survey.specs.Survey.{enciphered_len, enciphered_bytes}
-use Rattle.survey.specs.Steps.{found_of, other_of, found_on, other_on, tally_of}
+use Rattle.survey.specs.Steps.{filepass_on, other_on, tally_of}
 use Rattle.survey.proofs.Records.{clear_within}
 
 -- the first FILEPASS and the first other id, from what was found so far and the records that are left
-abbrev found_by : Found → List BiffRecord → Found
-found_by (found.At at len) rs = found.At at len
-found_by found.Nothing rs = found_of (filepass rs)
+abbrev filepass_by : Option BiffRecord → List BiffRecord → Option BiffRecord
+filepass_by (Some first) rs = Some first
+filepass_by None rs = filepass rs
 
-abbrev other_by : Found → Other → List BiffRecord → Other
-other_by (found.At at len) o rs = o
-other_by found.Nothing (other.Id id) rs = other.Id id
-other_by found.Nothing other.InOrder rs = other_of (other_id rs)
+abbrev other_by : Option BiffRecord → Option ℕ → List BiffRecord → Option ℕ
+other_by (Some first) o rs = o
+other_by None (Some id) rs = Some id
+other_by None None rs = other_id rs
 
 module _ (r : BiffRecord) (rs : List BiffRecord) where
-  found_more : (f : Found) → found_by (found_on f r.at r.id r.len) rs ≡ found_by f (r ∷ rs)
+  filepass_more : (f : Option BiffRecord) → filepass_by (filepass_on f r) rs ≡ filepass_by f (r ∷ rs)
   unfolding filepass pick
-  found_more (found.At at len) = refl
-  found_more found.Nothing = go (eqb r.id 0x002F)
+  filepass_more (Some first) = refl
+  filepass_more None = go (eqb r.id 0x002F)
     where
-      go : (t : Bool) → found_by (pick t (found.At r.at r.len) found.Nothing) rs ≡ found_of (pick t (some r) (filepass rs))
+      go : (t : Bool) → filepass_by (pick t (Some r) None) rs ≡ pick t (Some r) (filepass rs)
       go true = refl
       go false = refl
 
@@ -51,51 +47,26 @@ module _ (r : BiffRecord) (rs : List BiffRecord) where
   of_the_seven : eqb r.id 0x002F ≡ true → never_encrypted r.id ≡ true
   of_the_seven e = rw (eqb-true r.id 0x002F e)
 
-  other_more : (f : Found) (o : Other) → other_by (found_on f r.at r.id r.len) (other_on f o r.id) rs ≡ other_by f o (r ∷ rs)
+  other_more : (f : Option BiffRecord) (o : Option ℕ) → other_by (filepass_on f r) (other_on f o r.id) rs ≡ other_by f o (r ∷ rs)
   unfolding other_id pick
-  other_more (found.At at len) o = refl
-  other_more found.Nothing (other.Id id) = go (eqb r.id 0x002F)
+  other_more (Some first) o = refl
+  other_more None (Some id) = go (eqb r.id 0x002F)
     where
-      go : (t : Bool) → other_by (pick t (found.At r.at r.len) found.Nothing) (other.Id id) rs ≡ other.Id id
+      go : (t : Bool) → other_by (pick t (Some r) None) (Some id) rs ≡ Some id
       go true = refl
       go false = refl
-  other_more found.Nothing other.InOrder = go (eqb r.id 0x002F) (never_encrypted r.id) of_the_seven
+  other_more None None = go (eqb r.id 0x002F) (never_encrypted r.id) of_the_seven
     where
       go : (t u : Bool) → (t ≡ true → u ≡ true)
-          → other_by (pick t (found.At r.at r.len) found.Nothing) (pick u other.InOrder (other.Id r.id)) rs ≡ other_of
-          (pick t none (pick u (other_id rs) (some r.id)))
+          → other_by (pick t (Some r) None) (pick u None (Some r.id)) rs ≡ pick t None (pick u (other_id rs) (Some r.id))
       go true true f = refl
       go true false f = let e = f refl in cc
       go false true f = refl
       go false false f = refl
 
 module _ (s : List ℕ) where
-  pub record Tallied (at records enciphered : ℕ) (f : Found) (o : Other) : Type 0 where
-    pub inside : at ≤ length s
-    pub fits : enciphered + records * 4 ≤ at
-    pub ends : (walk_at s at).ends ≡ (walk s).ends
-    pub counted : records + length (walk_at s at).records ≡ length (walk s).records
-    pub summed : enciphered + enciphered_bytes (walk_at s at).records ≡ enciphered_bytes (walk s).records
-    pub first : found_by f (walk_at s at).records ≡ found_of (filepass (walk s).records)
-    pub before : other_by f o (walk_at s at).records ≡ other_of (other_id (walk s).records)
-
-  pub tallied_none : Tallied 0 0 0 found.Nothing other.InOrder
-  tallied_none =
-      record {
-        inside = omega arith;
-        fits = omega arith;
-        ends = refl;
-        counted = zero-add (length (walk s).records);
-        summed = zero-add (enciphered_bytes (walk s).records);
-        first = refl;
-        before = refl;
-      }
-
   -- a record more
   module _ (at id len : ℕ) (e : step_at s at ≡ step.Record id len) where
-    abbrev here : BiffRecord
-    here = record { at = at; id = id; len = len }
-
     abbrev rest : List BiffRecord
     rest = (walk_at s (at + 4 + len)).records
 
@@ -105,61 +76,6 @@ module _ (s : List ℕ) where
     pub bytes_more : enciphered_len id len + enciphered_bytes rest ≡ enciphered_bytes (walk_at s at).records
     unfolding enciphered_bytes
     bytes_more = sym (ap enciphered_bytes (records_on s at id len e))
-
-    pub tallied_on : (records enciphered : ℕ) (f : Found) (o : Other) → Tallied at records enciphered f o
-        → Tallied (at + 4 + len) (records + 1) (enciphered + enciphered_len id len) (found_on f at id len) (other_on f o id)
-    tallied_on records enciphered f o t =
-        let clear = clear_within id len in
-        let few = t.fits in
-        let count = t.counted in
-        let sum = t.summed in
-        let one = one_more in
-        let bytes = bytes_more in
-        record {
-          inside = record_within s at id len e;
-          fits = omega arith;
-          ends = sym (ends_on s at id len e) ∙ t.ends;
-          counted = omega arith;
-          summed = omega arith;
-          first = found_more here rest f ∙ sym (ap (found_by f) (records_on s at id len e)) ∙ t.first;
-          before = other_more here rest f o ∙ sym (ap (other_by f o) (records_on s at id len e)) ∙ t.before;
-        }
-
-  -- where no record is left, all is tallied
-  module _ (at records enciphered : ℕ) (f : Found) (o : Other) (t : Tallied at records enciphered f o) where
-    no_more : (f : Found) → found_by f [] ≡ f
-    unfolding filepass
-    no_more (found.At first size) = refl
-    no_more found.Nothing = refl
-
-    no_others : (f : Found) (o : Other) → other_by f o [] ≡ o
-    unfolding other_id
-    no_others (found.At first size) o = refl
-    no_others found.Nothing (other.Id id) = refl
-    no_others found.Nothing other.InOrder = refl
-
-    all_tallied : (w : WalkEnd) → w ≡ (walk s).ends → (walk_at s at).records ≡ []
-        → record { end = w; records = records; enciphered = enciphered; found = f; other = o } ≡ tally_of s
-    unfolding tally_of enciphered_bytes
-    all_tallied w ew e =
-        let en : records ≡ length (walk s).records = sym (add-zero records) ∙ sym (ap (λ (rs : List BiffRecord). records + length rs) e) ∙ t.counted in
-        let eb : enciphered ≡ enciphered_bytes (walk s).records =
-        sym (add-zero enciphered) ∙ sym (ap (λ (rs : List BiffRecord). enciphered + enciphered_bytes rs) e) ∙ t.summed in
-        let ef : f ≡ found_of (filepass (walk s).records) = sym (ap (found_by f) e ∙ no_more f) ∙ t.first in
-        let eo : o ≡ other_of (other_id (walk s).records) = sym (ap (other_by f o) e ∙ no_others f o) ∙ t.before in
-        same w records enciphered f o ew en eb ef eo
-      where
-        same : (w : WalkEnd) (n k : ℕ) (g : Found) (p : Other) → w ≡ (walk s).ends → n ≡ length (walk s).records → k ≡ enciphered_bytes (walk s).records
-            → g ≡ found_of (filepass (walk s).records) → p ≡ other_of (other_id (walk s).records)
-            → record { end = w; records = n; enciphered = k; found = g; other = p } ≡ tally_of s
-        same w n k g p ew en ek eg ep = rw (ew, en, ek, eg, ep)
-
-    pub tallied_end : step_at s at ≡ step.End → record { end = end.Clean; records = records; enciphered = enciphered; found = f; other = o } ≡ tally_of s
-    tallied_end e = all_tallied end.Clean (sym (ap (λ (w : Walk). w.ends) (walk_end s at e)) ∙ t.ends) (records_end_lem s at e)
-
-    pub tallied_fault : (p : ℕ) → step_at s at ≡ step.Fault p
-        → record { end = end.Fault p; records = records; enciphered = enciphered; found = f; other = o } ≡ tally_of s
-    tallied_fault p e = all_tallied (end.Fault p) (sym (ap (λ (w : Walk). w.ends) (walk_fault s at p e)) ∙ t.ends) (records_fault s at p e)
 
   -- the enciphered bytes and four for each record lie behind one another, up to where the records end
   abbrev Fit : ℕ → Type 0
@@ -190,3 +106,78 @@ module _ (s : List ℕ) where
       let inside = end_within s in
       let left_over = length-drop (records_end s) s in
       omega arith
+
+  -- what the loop over the walk keeps: so much is tallied, and w is left
+  pub record Tallied (w : Walk) (fault : Option ℕ) (records enciphered : ℕ) (f : Option BiffRecord) (o : Option ℕ) : Type 0 where
+    pub counted : Counted s w records fault
+    pub summed : enciphered + enciphered_bytes w.records ≡ enciphered_bytes (walk s).records
+    pub first : filepass_by f w.records ≡ filepass (walk s).records
+    pub before : other_by f o w.records ≡ other_id (walk s).records
+
+  pub tallied_none : Tallied (walk s) None 0 0 None None
+  tallied_none = record { counted = counted_none s; summed = zero-add (enciphered_bytes (walk s).records); first = refl; before = refl }
+
+  module _ (w : Walk) (fault : Option ℕ) (records enciphered : ℕ) (f : Option BiffRecord) (o : Option ℕ) (t : Tallied w fault records enciphered f o) where
+    module _ (r : BiffRecord) (left : Walk) (e : w ≡ behind r left) where
+      pub tallied_more : Tallied left fault (records + 1) (enciphered + enciphered_len r.id r.len) (filepass_on f r) (other_on f o r.id)
+      unfolding enciphered_bytes
+      tallied_more = more (subst (λ (v : Walk). Tallied v fault records enciphered f o) e t)
+        where
+          more : Tallied (behind r left) fault records enciphered f o
+              → Tallied left fault (records + 1) (enciphered + enciphered_len r.id r.len) (filepass_on f r) (other_on f o r.id)
+          more t =
+              let sum = t.summed in
+              record {
+                counted = counted_more s _ records fault t.counted r left refl;
+                summed = omega arith;
+                first = filepass_more r left.records f ∙ t.first;
+                before = other_more r left.records f o ∙ t.before;
+              }
+
+      -- so its numbers fit numbers of the machine
+      pub tallied_fits : enciphered + enciphered_len r.id r.len + (records + 1) ≤ length s
+      tallied_fits =
+          let more = tallied_more in
+          let sum = more.summed in
+          let count = more.counted.counted in
+          let fits = within_stream in
+          omega arith
+
+    pub tallied_fault : (p : ℕ) → w ≡ record { records = []; fault = Some p }
+        → Tallied (record { records = []; fault = None }) (Some p) records enciphered f o
+    tallied_fault p e = at_fault (subst (λ (v : Walk). Tallied v fault records enciphered f o) e t)
+      where
+        at_fault : Tallied (record { records = []; fault = Some p }) fault records enciphered f o → Tallied (record { records = []; fault = None }) (Some p) records enciphered f o
+        at_fault t = record { counted = counted_fault s _ records fault t.counted p refl; summed = t.summed; first = t.first; before = t.before }
+
+    -- where nothing is left, all is tallied
+    pub tallied_all : w ≡ record { records = []; fault = None }
+        → record { fault = fault; records = records; enciphered = enciphered; filepass = f; other = o } ≡ tally_of s
+    unfolding tally_of enciphered_bytes filepass other_id
+    tallied_all e = all (subst (λ (v : Walk). Tallied v fault records enciphered f o) e t)
+      where
+        no_more : (f : Option BiffRecord) → filepass_by f [] ≡ f
+        no_more (Some first) = refl
+        no_more None = refl
+
+        no_others : (f : Option BiffRecord) (o : Option ℕ) → other_by f o [] ≡ o
+        no_others (Some first) o = refl
+        no_others None (Some id) = refl
+        no_others None None = refl
+
+        all : Tallied (record { records = []; fault = None }) fault records enciphered f o
+            → record { fault = fault; records = records; enciphered = enciphered; filepass = f; other = o } ≡ tally_of s
+        all t =
+            rw (← t.counted.ends, ← t.counted.counted, ← t.summed, ← t.first, ← t.before, no_more f, no_others f o, add-zero records, add-zero enciphered) refl
+
+  -- where no FILEPASS was met the record may be the first, and behind one it changes neither
+  module _ (w : Walk) (fault : Option ℕ) (records enciphered : ℕ) (o : Option ℕ) (r : BiffRecord) where
+    pub before_filepass : (f : Option BiffRecord) → is_some f ≡ false → Tallied w fault records enciphered (filepass_on f r) (other_on f o r.id)
+        → Tallied w fault records enciphered (filepass_on None r) (other_on None o r.id)
+    before_filepass None e t = t
+    before_filepass (Some first) e t = cc
+
+    pub behind_filepass : (f : Option BiffRecord) → is_some f ≡ true → Tallied w fault records enciphered (filepass_on f r) (other_on f o r.id)
+        → Tallied w fault records enciphered f o
+    behind_filepass None e t = cc
+    behind_filepass (Some first) e t = t

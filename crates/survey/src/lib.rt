@@ -3,83 +3,49 @@
 // the counts are request T-04 of document 02.
 #![tactic(auto)]
 
-ghost use Rattle.std.specs.Prelude.{◌≡◌};
+ghost use Rattle.std.specs.Prelude.{◌≡◌, None};
 ghost use Rattle.laws.specs.Choice.{pick};
 ghost use Rattle.binary_office.specs.Walk.{walk};
-ghost use Rattle.file_params.specs.Questions.{asked, in_order, starts_bof, lock};
-ghost use Rattle.survey.specs.Checked.{checked_of};
+ghost use Rattle.file_params.specs.Questions.{asked, unless, in_order, starts_bof, lock};
 ghost use Rattle.survey.specs.Survey.{enciphered_len, counts_of, scheme_by, surveyed};
-ghost use Rattle.survey.specs.Steps.{found_on, other_on, tally_of, read_of, locked_by};
+ghost use Rattle.survey.specs.Steps.{filepass_on, other_on, tally_of, locked_by};
 
-// Whether a group of questions was passed.
-#[derive(Clone, Copy)]
-pub enum Checked {
-    Fine,
-    Refused(file_params::Refusal),
-}
+use binary_office::{BiffRecord, Step};
+use file_params::Refusal;
 
 // The lock of a FILEPASS body.
-#[derive(Clone, Copy)]
+#[derive(Clone, Copy, Debug, PartialEq, Eq)]
 pub enum Scheme {
     Xor,
     Rc4(block_keys::Rc4Lock),
 }
 
-// A stream that no question refuses: how many records it has and how many of their bytes are enciphered, where its
-// first FILEPASS is (the offset of its header, the length of its body), and the lock.
-#[derive(Clone, Copy)]
+// A stream that no question refuses: how many records it has and how many of their bytes are enciphered, its first
+// FILEPASS, and the lock.
+#[derive(Clone, Copy, Debug, PartialEq, Eq)]
 pub struct Book {
     pub records: usize,
     pub enciphered: usize,
-    pub at: usize,
-    pub len: u16,
+    pub filepass: BiffRecord,
     pub scheme: Scheme,
 }
 
-// What came of a survey.
-#[derive(Clone, Copy)]
-pub enum Surveyed {
-    Locked(Book),
-    Refused(file_params::Refusal),
-}
-
-// Where a record is, the first FILEPASS or a zero record: the offset of its header, and the length of its body.
-#[derive(Clone, Copy)]
-pub enum Found {
-    At(usize, u16),
-    Nothing,
-}
-
-// The first id before FILEPASS that is not one of the seven.
-#[derive(Clone, Copy)]
-enum Other {
-    Id(u16),
-    InOrder,
-}
-
-// A walk of the whole stream: how it ends, how many records there are, how many of their bytes are enciphered, the
-// first FILEPASS, and the first id before it that is not one of the seven.
-#[derive(Clone, Copy)]
+// A walk of the whole stream: the place of the fault at which it ends, how many records there are, how many of their
+// bytes are enciphered, the first FILEPASS, and the first id before it that is not one of the seven.
+#[derive(Clone, Copy, Debug, PartialEq, Eq)]
 struct Tally {
-    end: binary_office::WalkEnd,
+    fault: Option<usize>,
     records: usize,
     enciphered: usize,
-    found: Found,
-    other: Other,
+    filepass: Option<BiffRecord>,
+    other: Option<u16>,
 }
 
-// What came of reading a FILEPASS body.
-#[derive(Clone, Copy)]
-enum Read {
-    Scheme(Scheme),
-    Refused(file_params::Refusal),
-}
-
-// What a walk of the whole stream counts: how it ends, how many records there are, and how many of their bytes are
-// enciphered.
-#[derive(Clone, Copy)]
+// What a walk of the whole stream counts: the place of the fault at which it ends, how many records there are, and how
+// many of their bytes are enciphered.
+#[derive(Clone, Copy, Debug, PartialEq, Eq)]
 pub struct Counts {
-    pub end: binary_office::WalkEnd,
+    pub fault: Option<usize>,
     pub records: usize,
     pub enciphered: usize,
 }
@@ -89,62 +55,41 @@ fn starts_bof(stream: &[u8]) -> bool
     ensures { result ≡ starts_bof (walk stream.now).records }
 {
     match binary_office::step_at(stream, 0) {
-        binary_office::Step::Record(id, _) => id == 0x0809,
-        binary_office::Step::Fault(_) => false,
-        binary_office::Step::End => false,
+        Step::Record(id, _) => id == 0x0809,
+        Step::Fault(_) => false,
+        Step::End => false,
     }
 }
 
-// Asks questions 6 and 7 of a stream, whose walk ends as given.
-pub fn check_records(stream: &[u8], end: binary_office::WalkEnd) -> Checked
-    ensures { result ≡ checked_of (asked (in_order end (walk stream.now).records)) }
+// Asks questions 6 and 7 of a stream, whose walk ends at a fault or cleanly.
+pub fn check_records(stream: &[u8], fault: Option<usize>) -> Result<(), Refusal>
+    ensures { result ≡ unless tt (asked (in_order fault (walk stream.now).records)) }
 {
-    match end {
-        binary_office::WalkEnd::Fault(at) => Checked::Refused(
-            file_params::Refusal::BiffRecordUnreadable(at),
-        ),
-        binary_office::WalkEnd::Clean => {
-            if starts_bof(stream) {
-                Checked::Fine
-            } else {
-                Checked::Refused(file_params::Refusal::WorkbookBofMissing)
-            }
-        }
+    if let Some(at) = fault {
+        return Err(Refusal::BiffRecordUnreadable(at));
+    }
+    if starts_bof(stream) {
+        Ok(())
+    } else {
+        Err(Refusal::WorkbookBofMissing)
     }
 }
 
-// The first FILEPASS, with one record more.
-fn found_on(found: Found, at: usize, id: u16, len: u16) -> Found
-    ensures { result ≡ found_on found at id len }
+// A record where no FILEPASS is before it: the first FILEPASS, if it is one.
+fn filepass_in(next: BiffRecord) -> Option<BiffRecord>
+    ensures { result ≡ filepass_on None next }
 {
-    match found {
-        Found::At(first, size) => Found::At(first, size),
-        Found::Nothing => {
-            if id == 0x002F {
-                Found::At(at, len)
-            } else {
-                Found::Nothing
-            }
-        }
-    }
+    if next.id == 0x002F { Some(next) } else { None }
 }
 
-// The first id before FILEPASS that is not one of the seven, with one record more.
-fn other_on(found: Found, other: Other, id: u16) -> Other
-    ensures { result ≡ other_on found other id }
+// The first id that is not one of the seven, with one record more, where no FILEPASS is before it.
+fn other_on(other: Option<u16>, id: u16) -> Option<u16>
+    ensures { result ≡ other_on None other id }
 {
-    match found {
-        Found::At(_, _) => other,
-        Found::Nothing => match other {
-            Other::Id(first) => Other::Id(first),
-            Other::InOrder => {
-                if binary_office::never_encrypted(id) {
-                    Other::InOrder
-                } else {
-                    Other::Id(id)
-                }
-            }
-        },
+    if other.is_none() & !binary_office::never_encrypted(id) {
+        Some(id)
+    } else {
+        other
     }
 }
 
@@ -168,39 +113,30 @@ fn enciphered_len(id: u16, len: u16) -> u16
 fn tally_records(stream: &[u8]) -> Tally
     ensures { result ≡ tally_of stream.now }
 {
-    let mut at: usize = 0;
-    let mut records: usize = 0;
-    let mut enciphered: usize = 0;
-    let mut found = Found::Nothing;
-    let mut other = Other::InOrder;
-    loop {
-        match binary_office::step_at(stream, at) {
-            binary_office::Step::End => {
-                return Tally {
-                    end: binary_office::WalkEnd::Clean,
-                    records,
-                    enciphered,
-                    found,
-                    other,
-                };
-            }
-            binary_office::Step::Fault(offset) => {
-                return Tally {
-                    end: binary_office::WalkEnd::Fault(offset),
-                    records,
-                    enciphered,
-                    found,
-                    other,
-                };
-            }
-            binary_office::Step::Record(id, len) => {
-                other = other_on(found, other, id);
-                found = found_on(found, at, id, len);
-                enciphered = enciphered + (enciphered_len(id, len) as usize);
+    let mut fault = None;
+    let mut records = 0;
+    let mut enciphered = 0;
+    let mut filepass = None;
+    let mut other = None;
+    for record in binary_office::biff_records(stream, 0) {
+        match record {
+            Ok(next) => {
+                if filepass.is_none() {
+                    other = other_on(other, next.id);
+                    filepass = filepass_in(next);
+                }
+                enciphered += enciphered_len(next.id, next.len) as usize;
                 records += 1;
-                at = at + 4 + (len as usize);
             }
+            Err(place) => fault = Some(place),
         }
+    }
+    Tally {
+        fault,
+        records,
+        enciphered,
+        filepass,
+        other,
     }
 }
 
@@ -208,80 +144,60 @@ fn tally_records(stream: &[u8]) -> Tally
 pub fn count_records(stream: &[u8]) -> Counts
     ensures { result ≡ counts_of (walk stream.now) }
 {
-    let tally = tally_records(stream);
-    let end = tally.end;
-    let records = tally.records;
-    let enciphered = tally.enciphered;
+    let walked = tally_records(stream);
     Counts {
-        end,
-        records,
-        enciphered,
+        fault: walked.fault,
+        records: walked.records,
+        enciphered: walked.enciphered,
     }
 }
 
 // Asks questions 10 to 26: the lock of a FILEPASS body, or the first refusal.
-fn find_lock(body: &[u8]) -> Read
-    ensures { result ≡ read_of (scheme_by body.now) (asked (lock body.now)) }
+fn find_lock(body: &[u8]) -> Result<Scheme, Refusal>
+    ensures { result ≡ unless (scheme_by body.now) (asked (lock body.now)) }
 {
     let have = body.len();
-    let binary_office::Field16::Value(kind) = binary_office::le16(body, 0) else {
-        return Read::Refused(file_params::Refusal::FilepassTruncated(have, 2));
-    };
+    let kind = binary_office::le16(body, 0).ok_or(Refusal::FilepassTruncated(have, 2))?;
     if kind == 0 {
         if have < 6 {
-            return Read::Refused(file_params::Refusal::FilepassTruncated(have - 2, 4));
+            return Err(Refusal::FilepassTruncated(have - 2, 4));
         }
-        return Read::Scheme(Scheme::Xor);
+        return Ok(Scheme::Xor);
     }
     if 1 < kind {
-        return Read::Refused(file_params::Refusal::FilepassEncryptionType(kind));
+        return Err(Refusal::FilepassEncryptionType(kind));
     }
-    match block_keys::scheme_of(&body[2..]) {
-        block_keys::Scheme::Refused(refusal) => Read::Refused(refusal),
-        block_keys::Scheme::Locked(rc4_lock) => Read::Scheme(Scheme::Rc4(rc4_lock)),
-    }
+    Ok(Scheme::Rc4(block_keys::scheme_of(&body[2..])?))
 }
 
 // Asks questions 8 to 26 of a stream that was tallied.
-fn check_locked(stream: &[u8], tally: Tally) -> Surveyed
+fn check_locked(stream: &[u8], tally: Tally) -> Result<Book, Refusal>
     requires { tally ≡ tally_of stream.now }
     ensures { result ≡ locked_by stream.now }
 {
-    let found = tally.found;
-    let Found::At(at, len) = found else {
-        return Surveyed::Refused(file_params::Refusal::NotEncrypted);
-    };
-    let other = tally.other;
-    match other {
-        Other::Id(id) => Surveyed::Refused(file_params::Refusal::FilepassOutOfOrder(id)),
-        Other::InOrder => {
-            let start = at + 4;
-            let end = start + (len as usize);
-            match find_lock(&stream[start..end]) {
-                Read::Refused(refusal) => Surveyed::Refused(refusal),
-                Read::Scheme(scheme) => Surveyed::Locked(Book {
-                    records: tally.records,
-                    enciphered: tally.enciphered,
-                    at,
-                    len,
-                    scheme,
-                }),
-            }
-        }
+    let filepass = tally.filepass.ok_or(Refusal::NotEncrypted)?;
+    if let Some(id) = tally.other {
+        return Err(Refusal::FilepassOutOfOrder(id));
     }
+    let start = filepass.at + 4;
+    let end = start + (filepass.len as usize);
+    let scheme = find_lock(&stream[start..end])?;
+    Ok(Book {
+        records: tally.records,
+        enciphered: tally.enciphered,
+        filepass,
+        scheme,
+    })
 }
 
 // Asks questions 4 and 6 to 26: what the stream alone says of its opening, or the first refusal.
-pub fn survey(stream: &[u8]) -> Surveyed
+pub fn survey(stream: &[u8]) -> Result<Book, Refusal>
     ensures { result ≡ surveyed stream.now }
 {
     if limits::LEGACY_STREAM_READ_CAP < stream.len() {
-        return Surveyed::Refused(file_params::Refusal::StreamTooLarge);
+        return Err(Refusal::StreamTooLarge);
     }
     let tally = tally_records(stream);
-    let end = tally.end;
-    match check_records(stream, end) {
-        Checked::Refused(refusal) => Surveyed::Refused(refusal),
-        Checked::Fine => check_locked(stream, tally),
-    }
+    check_records(stream, tally.fault)?;
+    check_locked(stream, tally)
 }

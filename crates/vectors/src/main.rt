@@ -3,70 +3,66 @@
 // many differ. tools/ has the scripts that make the data: make_vectors.py, make_texts.py, XorVectors.java.
 #![tactic(auto)]
 
-ghost use Rattle.std.specs.Prelude.{◌≡◌, ◌^◌, ◌<◌, ◌≤◌, length};
+ghost use Rattle.std.specs.Prelude.{◌<◌, ◌^◌};
 
 use rc4::Keystream;
-use samples::{number, part};
-use sensitive::Encoded;
+use samples::{Reader, part};
+use sensitive::EncodeError;
 use std::io;
 use std::rt::Files;
-use xor_obfuscation::XorKey;
 
 // How many vectors of a set ran, and how many differ.
-#[derive(Clone, Copy)]
+#[derive(Clone, Copy, Debug, PartialEq, Eq)]
 struct Tally {
     run: u64,
     differ: u64,
 }
 
-fn tallied(t: Tally, same: bool) -> Tally {
-    let run = std::num::wrapping_add_u64(t.run, 1);
-    if same {
-        return Tally {
-            run,
-            differ: t.differ,
-        };
-    }
-    Tally {
-        run,
-        differ: std::num::wrapping_add_u64(t.differ, 1),
+impl Tally {
+    fn count(&mut self, same: bool) {
+        self.run = self.run.wrapping_add(1);
+        if !same {
+            self.differ = self.differ.wrapping_add(1);
+        }
     }
 }
 
-fn md5_set(data: &[u8]) -> Tally {
-    let mut t = Tally { run: 0, differ: 0 };
-    let mut at = 0;
-    while at < data.len() {
-        let len = number(data, at);
-        let got = md_5::digest(part(data, at + 4, len));
-        t = tallied(t, check::same(&got, part(data, at + 4 + len, 16)));
-        at = at + 20 + len;
+// Counts the cases of a set, which follow one another in its data: judge reads a case and says whether what is made of
+// it is as wanted. A case takes bytes, so there are no more cases than bytes.
+fn judged<F: FnMut(&mut Reader) -> bool>(data: &[u8], mut judge: F) -> Tally
+    requires { F.IsAlwaysCallable judge }
+{
+    let mut tally = Tally { run: 0, differ: 0 };
+    let mut cases = Reader::new(data);
+    for _ in data {
+        if cases.is_empty() {
+            break;
+        }
+        tally.count(judge(&mut cases));
     }
-    t
+    tally
 }
 
-fn sha1_set(data: &[u8]) -> Tally {
-    let mut t = Tally { run: 0, differ: 0 };
-    let mut at = 0;
-    while at < data.len() {
-        let len = number(data, at);
-        let got = sha_1::digest(part(data, at + 4, len));
-        t = tallied(t, check::same(&got, part(data, at + 4 + len, 20)));
-        at = at + 24 + len;
-    }
-    t
+// A message after its length, and its MD5 digest.
+fn md5_same(cases: &mut Reader) -> bool {
+    let got = md_5::digest(cases.sized());
+    got.as_slice() == cases.bytes(16)
+}
+
+// A message after its length, and its SHA-1 digest.
+fn sha1_same(cases: &mut Reader) -> bool {
+    let got = sha_1::digest(cases.sized());
+    got.as_slice() == cases.bytes(20)
 }
 
 // Three digests, one after the other.
 fn joined(a: [u8; 20], b: [u8; 20], c: [u8; 20]) -> [u8; 60] {
     let mut m = [0u8; 60];
-    let mut i = 0;
-    while i < 20 {
-        m[i] = a[i];
-        m[i + 20] = b[i];
-        m[i + 40] = c[i];
-        i += 1;
-    }
+    let (first, others) = m.split_at_mut(20);
+    let (second, third) = others.split_at_mut(20);
+    first.copy_from_slice(&a);
+    second.copy_from_slice(&b);
+    third.copy_from_slice(&c);
     m
 }
 
@@ -75,215 +71,145 @@ fn checkpoint(seed: [u8; 20]) -> [u8; 20] {
     let mut a = seed;
     let mut b = seed;
     let mut c = seed;
-    let mut i = 0usize;
-    while i < 1000 {
+    for _ in 0..1000 {
         let m = joined(a, b, c);
         a = b;
         b = c;
         c = sha_1::digest(&m);
-        i += 1;
     }
     c
 }
 
-// The byte at an offset, or 0 past the end.
-fn byte_at(data: &[u8], i: usize) -> u8 {
-    if i < data.len() { data[i] } else { 0 }
-}
-
-// The 20 bytes at the start of a part.
+// The first 20 bytes of a part, with zeros for those that it lacks.
 fn seed_of(data: &[u8]) -> [u8; 20] {
     let mut seed = [0u8; 20];
-    let mut i = 0;
-    while i < 20 {
-        seed[i] = byte_at(data, i);
-        i += 1;
-    }
+    let len = data.len().min(20);
+    seed[..len].copy_from_slice(&data[..len]);
     seed
 }
 
+// The checkpoints of the Monte Carlo test, each made of the one before, behind the seed of the first.
 fn sha1_monte(data: &[u8]) -> Tally {
-    let mut t = Tally { run: 0, differ: 0 };
-    let mut seed = seed_of(data);
-    let mut at = 20;
-    while at < data.len() {
-        seed = checkpoint(seed);
-        t = tallied(t, check::same(&seed, part(data, at, 20)));
-        at += 20;
-    }
-    t
+    let mut digest = seed_of(data);
+    judged(data.get(20..).unwrap_or(&[]), |cases| {
+        digest = checkpoint(digest);
+        digest.as_slice() == cases.bytes(20)
+    })
 }
 
 // Whether 16 bytes of a key's keystream from an offset of at most 4,096 on are those wanted. The
 // keystream is resumed after the bytes before the offset.
 fn keystream_same(key: &[u8], offset: usize, want: &[u8]) -> bool {
-    let made = Keystream::new(key);
-    if !made.ok {
-        return false;
-    }
-    if 4096 < offset {
-        return false;
-    }
-    let zeros = [0u8; 4096];
-    let mut before = [0u8; 4096];
-    let keystream = made.keystream;
-    let later = keystream.apply(&zeros[0..offset], &mut before);
-    let mut got = [0u8; 16];
-    later.apply(&zeros, &mut got);
-    check::same(&got, want)
-}
-
-fn rc4_set(data: &[u8]) -> Tally {
-    let mut t = Tally { run: 0, differ: 0 };
-    let mut at = 0;
-    while at < data.len() {
-        let len = number(data, at);
-        let offset = number(data, at + 4 + len);
-        let same = keystream_same(
-            part(data, at + 4, len),
-            offset,
-            part(data, at + 8 + len, 16),
-        );
-        t = tallied(t, same);
-        at = at + 24 + len;
-    }
-    t
-}
-
-// Whether a text in UTF-16LE is as wanted, where a length of FFFFFFFF says that it is not well formed.
-fn text_same(text: &[u8], len: usize, want: &[u8]) -> bool {
-    let mut out = [0u8; 64];
-    match sensitive::utf16le_password(text, &mut out) {
-        Encoded::Bytes(n) => {
-            if n != len {
-                return false;
-            }
-            check::same(part(&out, 0, n), want)
-        }
-        Encoded::Malformed => len == 0xffff_ffff,
-        Encoded::Short(_) => false,
-    }
-}
-
-// The length of what follows a text's length in UTF-16LE.
-fn encoded_len(len: usize) -> usize
-    ensures { result < 2 ^ 32 }
-{
-    if len < 0xffff_ffff { len } else { 0 }
-}
-
-fn text_set(data: &[u8]) -> Tally {
-    let mut t = Tally { run: 0, differ: 0 };
-    let mut at = 0;
-    while at < data.len() {
-        let len = number(data, at);
-        let wide = number(data, at + 4 + len);
-        let n = encoded_len(wide);
-        let same = text_same(part(data, at + 4, len), wide, part(data, at + 8 + len, n));
-        t = tallied(t, same);
-        at = at + 8 + len + n;
-    }
-    t
-}
-
-// Whether key, verifier and array of an XOR password are those wanted.
-fn xor_same(password: &[u8], key: usize, verifier: usize, array: &[u8]) -> bool {
-    let XorKey::Key(k) = xor_obfuscation::xor_key(password) else {
+    let Some(keystream) = Keystream::new(key) else {
         return false;
     };
-    let got = xor_obfuscation::xor_array(password, k);
-    let v = xor_obfuscation::password_verifier(password);
-    (k as usize == key) & (v as usize == verifier) & check::same(&got, array)
+    let zeros = [0u8; 4096];
+    let Some(skipped) = zeros.get(..offset) else {
+        return false;
+    };
+    let mut before = [0u8; 4096];
+    let later = keystream.apply(skipped, &mut before);
+    let mut got = [0u8; 16];
+    later.apply(&zeros, &mut got);
+    got.as_slice() == want
 }
 
-fn xor_set(data: &[u8]) -> Tally {
-    let mut t = Tally { run: 0, differ: 0 };
-    let mut at = 0;
-    while at < data.len() {
-        let len = number(data, at);
-        let key = number(data, at + 4 + len);
-        let verifier = number(data, at + 8 + len);
-        let same = xor_same(
-            part(data, at + 4, len),
-            key,
-            verifier,
-            part(data, at + 12 + len, 16),
-        );
-        t = tallied(t, same);
-        at = at + 28 + len;
+// A key after its length, an offset, and what the keystream is from there on.
+fn rc4_same(cases: &mut Reader) -> bool {
+    let key = cases.sized();
+    let offset = cases.number();
+    keystream_same(key, offset, cases.bytes(16))
+}
+
+// The length that says of a text that it is not well formed.
+const NOT_WELL_FORMED: usize = 0xffff_ffff;
+
+// Whether a text in UTF-16LE is as wanted.
+fn encoded_same(text: &[u8], len: usize, want: &[u8]) -> bool {
+    let mut out = [0u8; 64];
+    match sensitive::utf16le_password(text, &mut out) {
+        Ok(n) => n == len && part(&out, 0, n) == want,
+        Err(EncodeError::Malformed) => len == NOT_WELL_FORMED,
+        Err(EncodeError::Short(_)) => false,
     }
-    t
 }
 
-// Zeros, as many as the long messages with their digests take and more.
-fn large_buffer() -> [u8; 262144]
-    ensures { 262144 ≡ length result }
+// A text after its length, and what it is in UTF-16LE after the length of that, which nothing follows where the text is
+// not well formed.
+fn text_same(cases: &mut Reader) -> bool {
+    let text = cases.sized();
+    let len = cases.number();
+    let want = cases.bytes(if len == NOT_WELL_FORMED { 0 } else { len });
+    encoded_same(text, len, want)
+}
+
+// An XOR password after its length, its key, its verifier and its array.
+fn xor_same(cases: &mut Reader) -> bool {
+    let password = cases.sized();
+    let key = cases.number();
+    let verifier = cases.number();
+    let array = cases.bytes(16);
+    let Some(k) = xor_obfuscation::xor_key(password) else {
+        return false;
+    };
+    usize::from(k) == key
+        && usize::from(xor_obfuscation::password_verifier(password)) == verifier
+        && xor_obfuscation::xor_array(password, k).as_slice() == array
+}
+
+// Reads a set, as far as N bytes of it, and prints what comes of it under its name.
+fn report<const N: usize, R: Files + Print + Eprint, F: FnOnce(&[u8]) -> Tally>(
+    rt: &R,
+    name: &str,
+    path: &[u8],
+    set: F,
+) -> io::Result<()>
+    requires callable { F.IsAlwaysCallable set }
+    requires fits { N < 2 ^ 63 }
 {
-    [0; 262144]
+    let mut data = [0u8; N];
+    let Tally { run, differ } = set(samples::read(rt, path, &mut data));
+    println!(rt; "{name}: {run} run, {differ} differ")
 }
 
-fn report(rt: &impl Print, name: &[u8], t: Tally) -> io::Result<()> {
-    let run = t.run;
-    let differ = t.differ;
-    rt.write_all(name)?;
-    println!(rt; ": {run} run, {differ} differ")
+fn report_rc4<R: Files + Print + Eprint>(rt: &R, name: &str, path: &[u8]) -> io::Result<()> {
+    report::<4096, _, _>(rt, name, path, |data| judged(data, rc4_same))
 }
 
-fn report_md5<R: Files + Print + Eprint>(rt: &R, name: &[u8], path: &[u8]) -> io::Result<()> {
-    let mut data = [0u8; 4096];
-    let n = samples::read(rt, path, &mut data);
-    report(rt, name, md5_set(&data[0..n]))
-}
-
-fn report_sha1<R: Files + Print + Eprint>(rt: &R, name: &[u8], path: &[u8]) -> io::Result<()> {
-    let mut data = large_buffer();
-    let n = samples::read(rt, path, &mut data);
-    report(rt, name, sha1_set(&data[0..n]))
-}
-
-fn report_monte<R: Files + Print + Eprint>(rt: &R, name: &[u8], path: &[u8]) -> io::Result<()> {
-    let mut data = [0u8; 4096];
-    let n = samples::read(rt, path, &mut data);
-    report(rt, name, sha1_monte(&data[0..n]))
-}
-
-fn report_rc4<R: Files + Print + Eprint>(rt: &R, name: &[u8], path: &[u8]) -> io::Result<()> {
-    let mut data = [0u8; 4096];
-    let n = samples::read(rt, path, &mut data);
-    report(rt, name, rc4_set(&data[0..n]))
-}
-
-fn report_texts<R: Files + Print + Eprint>(rt: &R, name: &[u8], path: &[u8]) -> io::Result<()> {
-    let mut data = large_buffer();
-    let n = samples::read(rt, path, &mut data);
-    report(rt, name, text_set(&data[0..n]))
-}
-
-fn report_xor<R: Files + Print + Eprint>(rt: &R, name: &[u8], path: &[u8]) -> io::Result<()> {
-    let mut data = [0u8; 8192];
-    let n = samples::read(rt, path, &mut data);
-    report(rt, name, xor_set(&data[0..n]))
+fn report_sha1<R: Files + Print + Eprint>(rt: &R, name: &str, path: &[u8]) -> io::Result<()> {
+    report::<262144, _, _>(rt, name, path, |data| judged(data, sha1_same))
 }
 
 fn main(rt: HostRuntime) -> io::Result<()> {
-    report_md5(&rt, b"RFC 1321, MD5", b"rfc1321")?;
-    report_sha1(&rt, b"SHA-1 validation, short messages", b"sha1_short")?;
-    report_sha1(&rt, b"SHA-1 validation, long messages", b"sha1_long")?;
-    report_monte(
+    report::<4096, _, _>(
         &rt,
-        b"SHA-1 validation, Monte Carlo checkpoints",
+        "RFC 1321, MD5",
+        b"rfc1321",
+        |data| judged(data, md5_same),
+    )?;
+    report_sha1(&rt, "SHA-1 validation, short messages", b"sha1_short")?;
+    report_sha1(&rt, "SHA-1 validation, long messages", b"sha1_long")?;
+    report::<4096, _, _>(
+        &rt,
+        "SHA-1 validation, Monte Carlo checkpoints",
         b"sha1_monte",
+        sha1_monte,
     )?;
-    report_rc4(&rt, b"RFC 6229, RC4 with keys of 5 bytes", b"rfc6229_5")?;
-    report_rc4(&rt, b"RFC 6229, RC4 with keys of 7 bytes", b"rfc6229_7")?;
-    report_rc4(&rt, b"RFC 6229, RC4 with keys of 8 bytes", b"rfc6229_8")?;
-    report_rc4(&rt, b"RFC 6229, RC4 with keys of 10 bytes", b"rfc6229_10")?;
-    report_rc4(&rt, b"RFC 6229, RC4 with keys of 16 bytes", b"rfc6229_16")?;
-    report_texts(&rt, b"UTF-8 to UTF-16LE, by CPython 3.11", b"texts")?;
-    report_xor(
+    report_rc4(&rt, "RFC 6229, RC4 with keys of 5 bytes", b"rfc6229_5")?;
+    report_rc4(&rt, "RFC 6229, RC4 with keys of 7 bytes", b"rfc6229_7")?;
+    report_rc4(&rt, "RFC 6229, RC4 with keys of 8 bytes", b"rfc6229_8")?;
+    report_rc4(&rt, "RFC 6229, RC4 with keys of 10 bytes", b"rfc6229_10")?;
+    report_rc4(&rt, "RFC 6229, RC4 with keys of 16 bytes", b"rfc6229_16")?;
+    report::<262144, _, _>(
         &rt,
-        b"XOR keys, verifiers and arrays, by Apache POI 4.0.1",
-        b"xor",
+        "UTF-8 to UTF-16LE, by CPython 3.11",
+        b"texts",
+        |data| { judged(data, text_same) },
     )?;
-    Ok(())
+    report::<8192, _, _>(
+        &rt,
+        "XOR keys, verifiers and arrays, by Apache POI 4.0.1",
+        b"xor",
+        |data| judged(data, xor_same),
+    )
 }

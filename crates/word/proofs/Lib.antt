@@ -1,4 +1,2 @@
 pub mod Bytes
-pub mod Part
 pub mod Rotation
-pub mod Sums

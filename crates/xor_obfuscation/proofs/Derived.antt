@@ -2,31 +2,36 @@
 -- And the worked values of document 01 for the password `A`.
 -- Assumes nothing.
 use mathlib.Core.Path.{◌≡◌, refl, sym, ap, ◌∙◌}
-use mathlib.Core.List.{List, [], ◌∷◌, ◌++◌}
+use mathlib.Core.List.{List, [], ◌∷◌, ◌++◌, reverse}
+use Rattle.std.specs.Prelude.{Some, None, true, false}
+use Rattle.std.specs.List.{fold}
+use Rattle.std.proofs.lemmas.List.{reverse-append}
+use Rattle.std.proofs.lemmas.List.Sums.{fold-append}
 use Prim.Native.Nat.{ℕ, ◌+◌, ◌-◌, ◌*◌, ◌/◌, ◌%◌, ◌^◌, ◌≤◌, ◌<◌, min}
 use native.Mathlib.Numerals.{add-one}
 use native.Mathlib.Omega.{arith}
 use lib.Bits.{bit_xor}
 use lib.Dec.{eqb}
-use lib.ListN.{length, get_or, drop, length-drop, get_or-append, get_or-eq_default}
+use lib.ListN.{length, get_or, drop, length-drop, get_or-append}
 use lib.Seq.{drop-cons, get_or-append-add, drop-length}
-use Rattle.laws.specs.Choice.{pick}
-use Rattle.laws.proofs.Choice.{stop, skip, within_yes, within_low, within_high}
+use Rattle.laws.specs.Choice.{pick, within}
+use Rattle.laws.proofs.Choice.{stop, skip}
 use Rattle.word.specs.Word.{rotr}
-use Rattle.xor_obfuscation.specs.declared.XorKey.TheVariants.{Key, NoKey}
-use Rattle.xor_obfuscation.specs.Xor.{pad_array, initial_code, xor_matrix, verifier_step, walked, password_verifier, char_bits, key_from, xor_key, key_of, xor_array}
+use Rattle.xor_obfuscation.specs.Xor.{initial_code, xor_matrix, verifier_step, walked, password_verifier, char_bits, key_from, xor_key, key_of, xor_array}
 
 -- what is left of a list from n on starts with the element at n
 from_here : (p : List ℕ) (n m : ℕ) → n + 1 ≡ m → m ≤ length p → drop n p ≡ get_or p n 0 ∷ drop m p
 from_here p n m e h = drop-cons p n 0 (omega arith) ∙ ap (λ (k : ℕ). get_or p n 0 ∷ drop k p) (sym (add-one n) ∙ e)
 
-pub walked_more : (p : List ℕ) (n m v r : ℕ) → n + 1 ≡ m → m ≤ length p → v ≡ walked (drop m p) → r ≡ verifier_step v (get_or p n 0) → r ≡ walked (drop n p)
+-- the bytes of a list folded from the last to the first
+fold_back : (p : List ℕ) → fold verifier_step 0 (reverse p) ≡ walked p
 unfolding walked
-walked_more p n m v r e h q g = g ∙ rw (from_here p n m e h, q)
+fold_back [] = refl
+fold_back (b ∷ bs) =
+    ap (fold verifier_step 0) (reverse-append (b ∷ []) bs) ∙ fold-append verifier_step 0 (reverse bs) (b ∷ []) ∙ ap (λ (n : ℕ). verifier_step n b) (fold_back bs)
 
-pub walked_none : (p : List ℕ) → 0 ≡ walked (drop (length p) p)
-unfolding walked
-walked_none p = rw (drop-length p)
+pub walked_back : (p : List ℕ) (v : ℕ) → v ≡ fold verifier_step 0 (reverse p) → v ≡ walked p
+walked_back p v e = e ∙ fold_back p
 
 pub verifier_whole : (p : List ℕ) (v b r : ℕ) → v ≡ walked p → b ≡ min (length p) 255 → r ≡ verifier_step v b → bit_xor r 0xCE4B ≡ password_verifier p
 unfolding password_verifier walked
@@ -59,9 +64,6 @@ source_high p q i h =
     let e : i ≡ length p + (i - length p) = omega arith in
     sym (ap (λ (n : ℕ). get_or (p ++ q) n 0) e ∙ get_or-append-add p q (i - length p) 0)
 
-pub pad_high : (n : ℕ) → 15 ≤ n → 0 ≡ get_or pad_array n 0
-pad_high n h = sym (get_or-eq_default pad_array 0 h)
-
 -- document 01: the password `A`, whose array starts 2A 01 and ends DC
 pub key_of_A : xor_key (0x41 ∷ []) ≡ 0xB915
 unfolding key_from pick
@@ -78,14 +80,10 @@ unfolding xor_array rotr pick
 array_of_A = refl
 
 -- which passwords have a key
-pub key_short : (p : List ℕ) → length p < 1 → NoKey ≡ key_of p
+pub key_no : (p : List ℕ) → within 1 15 (length p) ≡ false → None ≡ key_of p
 unfolding key_of
-key_short p h = skip _ (within_low 1 15 (length p) h) refl
+key_no p e = skip _ e refl
 
-pub key_long : (p : List ℕ) → 15 < length p → NoKey ≡ key_of p
+pub key_whole : (p : List ℕ) (r : ℕ) → within 1 15 (length p) ≡ true → r ≡ key_from (get_or initial_code (length p - 1) 0) p → Some r ≡ key_of p
 unfolding key_of
-key_long p h = skip _ (within_high 1 15 (length p) h) refl
-
-pub key_whole : (p : List ℕ) (code r : ℕ) → 1 ≤ length p → length p ≤ 15 → code ≡ get_or initial_code (length p - 1) 0 → r ≡ key_from code p → Key r ≡ key_of p
-unfolding key_of
-key_whole p code r g h e q = rw (q, e) (stop _ (within_yes 1 15 (length p) g h))
+key_whole p r e q = rw q (stop _ e)

@@ -1,13 +1,14 @@
 -- Data put through the array in pieces of 16: a piece written from a place on is a part of the whole, and a later part may overlap what is written already.
 -- Assumes nothing.
-use mathlib.Core.Path.{◌≡◌, refl, ap, ◌∙◌}
+use mathlib.Core.Path.{◌≡◌, refl, sym, ap, ◌∙◌}
 use mathlib.Core.List.{List}
 use Prim.Native.Nat.{ℕ, ◌+◌, ◌-◌, ◌%◌, ◌≤◌, ◌<◌, min}
 use native.Mathlib.Omega.{arith}
-use lib.ListN.{length, get_or}
+use lib.ListN.{length, get_or, set, length-set}
+use lib.Seq.{get_or-set_same, get_or-set_other, ext_get_or}
 use Rattle.laws.specs.Offsets.{tabulate}
-use Rattle.laws.proofs.Choice.{either}
-use Rattle.laws.proofs.Offsets.{get_d_tabulate}
+use Rattle.laws.proofs.Choice.{either, same_or}
+use Rattle.laws.proofs.Offsets.{length_tabulate, get_d_tabulate}
 use Rattle.laws.proofs.Written.{Written, written_all}
 use Rattle.xor_obfuscation.specs.declared.Way.{Way}
 use Rattle.xor_obfuscation.specs.declared.Way.TheVariants.{Decrypt, Encrypt}
@@ -18,6 +19,42 @@ pub ciphered_at : (way : Way) (array : List ℕ) (index : ℕ) (s : List ℕ) (o
     → ciphered way (get_or s o 0) (get_or array i 0) ≡ transformed_at way array index s o
 ciphered_at Decrypt array index s o i e = rw e
 ciphered_at Encrypt array index s o i e = rw e
+
+-- a list whose first i places, and those from 16 on, hold the first i bytes of the array
+pub record Both (array twice : List ℕ) (i : ℕ) : Type 0 where
+  pub long : length twice ≡ 32
+  pub low : (k : ℕ) → k < i → get_or twice k 0 ≡ get_or array k 0
+  pub high : (k : ℕ) → k < i → get_or twice (16 + k) 0 ≡ get_or array k 0
+
+pub both_more : (array twice : List ℕ) (i : ℕ) → i < 16 → Both array twice i → Both array (set (set twice i (get_or array i 0)) (16 + i) (get_or array i 0)) (i + 1)
+both_more array twice i h b =
+    let x = get_or array i 0 in
+    record {
+      long = simp length-set b.long;
+      low = λ k l.
+          get_or-set_other (set twice i x) (16 + i) k x 0 (λ e. omega arith)
+          ∙ same_or k i
+          (λ e. rw e (get_or-set_same twice i x 0 (rw b.long (omega arith))))
+          (λ e. get_or-set_other twice i k x 0 e ∙ b.low k (omega arith));
+      high = λ k l.
+          same_or k i
+          (λ e. rw e (get_or-set_same (set twice i x) (16 + i) x 0 (rw (length-set, b.long) (omega arith))))
+          (λ e. get_or-set_other (set twice i x) (16 + i) (16 + k) x 0 (λ q. e (omega arith)) ∙ get_or-set_other twice i (16 + k) x 0 (λ q. omega arith) ∙ b.high k (omega arith));
+    }
+
+pub both_all : (array twice : List ℕ) → Both array twice 16 → twice ≡ twice_over array
+both_all array twice b =
+    ext_get_or 0 twice (twice_over array) (b.long ∙ sym (length_tabulate _ 32))
+    (λ i l. let m : i < 32 = rw b.long at l in at i m ∙ sym (get_d_tabulate (λ (n : ℕ). get_or array (n % 16) 0) 32 i 0 m))
+  where
+    at : (i : ℕ) → i < 32 → get_or twice i 0 ≡ get_or array (i % 16) 0
+    at i m =
+        either 16 i
+        (λ n.
+        let q : i ≡ 16 + (i - 16) = omega arith in
+        let r : i - 16 ≡ i % 16 = omega arith in
+        ap (λ (j : ℕ). get_or twice j 0) q ∙ b.high (i - 16) (omega arith) ∙ ap (λ (j : ℕ). get_or array j 0) r)
+        (λ n. let r : i ≡ i % 16 = omega arith in b.low i n ∙ ap (λ (j : ℕ). get_or array j 0) r)
 
 -- the array twice over, from an index on
 pub twice_at : (array : List ℕ) (index at start i : ℕ) → start ≡ (index + at) % 16 → i < 16

@@ -1,14 +1,12 @@
 -- XOR obfuscation, Method 1: MS-OFFCRYPTO 2.3.7.1 to 2.3.7.3, with the tables and steps that document 01 takes from xor_obfuscation.rs.
 -- Assumes nothing.
-use Rattle.std.specs.Prelude.{◌≡◌, ℕ, zero, suc, ◌+◌, ◌-◌, ◌*◌, ◌/◌, ◌%◌, ◌^◌, min, List, [], ◌∷◌, ◌++◌, eqb, leb, length, get_or, drop}
+use Rattle.std.specs.Prelude.{◌≡◌, ℕ, zero, suc, ◌+◌, ◌-◌, ◌*◌, ◌/◌, ◌%◌, ◌^◌, min, List, [], ◌∷◌, ◌++◌, Option, Some, None, eqb, leb, length, get_or, drop}
 use Rattle.std.specs.Int.Bits.{bit_or, bit_xor}
 use Rattle.laws.specs.Choice.{pick, within}
 use Rattle.laws.specs.Offsets.{tabulate}
 use Rattle.word.specs.Word.{rotl, rotr}
 use Rattle.xor_obfuscation.specs.declared.Way.{Way}
 use Rattle.xor_obfuscation.specs.declared.Way.TheVariants.{Decrypt, Encrypt}
-use Rattle.xor_obfuscation.specs.declared.XorKey.{XorKey}
-use Rattle.xor_obfuscation.specs.declared.XorKey.TheVariants.{Key, NoKey}
 
 -- 2.3.7.2: PadArray, InitialCode and XorMatrix, the matrix a row for each of 15 characters
 abbrev pub pad_array : List ℕ
@@ -73,9 +71,9 @@ abbrev pub xor_key : List ℕ → ℕ
 xor_key p = key_from (get_or initial_code (length p - 1) 0) p
 
 -- a password of 1 to 15 bytes has a key
-unfoldable pub key_of : List ℕ → XorKey
+unfoldable pub key_of : List ℕ → Option ℕ
 unfolding pick
-key_of p = pick (within 1 15 (length p)) (Key (xor_key p)) NoKey
+key_of p = pick (within 1 15 (length p)) (Some (xor_key p)) None
 
 -- 2.3.7.2: the password and then PadArray, exclusive-or the key's low byte at even and its high byte at odd places, rotated right by one bit
 abbrev pub xor_array_at : List ℕ → ℕ → ℕ → ℕ

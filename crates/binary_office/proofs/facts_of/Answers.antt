@@ -7,8 +7,8 @@ pub returns-in_default : goal.returns-in_default
 returns-in_default c = facts_short c.args.body.now (c.in_default.ensures)
 
 pub returns-then-kind-eq0 : goal.returns-then-kind-eq0
-returns-then-kind-eq0 c = facts_xor c.args.body.now _ (c.in-Value.ensures) c.if-kind-eq0.true
+returns-then-kind-eq0 c = facts_xor c.args.body.now _ (c.in-Some.ensures) c.if-kind-eq0.true
 
 pub returns : goal.returns
-returns c = facts_other c.args.body.now _ c.version_of-version.result c.size_of-key_size.result (c.in-Value.ensures)
+returns c = facts_other c.args.body.now _ c.version_of-version.result c.size_of-key_size.result (c.in-Some.ensures)
     c.if-kind-eq0.false c.version_of-version.ensures c.size_of-key_size.ensures

@@ -7,9 +7,9 @@ pub returns-in_default : goal.returns-in_default
 returns-in_default c = found_short c.args.book.now (c.in_default.ensures)
 
 pub returns-then-id-eq2057 : goal.returns-then-id-eq2057
-returns-then-id-eq2057 c = let h = c.in-Value.ensures in
+returns-then-id-eq2057 c = let h = c.in-Some.ensures in
     found_scan c.args.book.now _ h c.scan.result c.if-id-eq2057.true c.scan.ensures
 
 pub returns-else-id-eq2057 : goal.returns-else-id-eq2057
-returns-else-id-eq2057 c = let h = c.in-Value.ensures in
+returns-else-id-eq2057 c = let h = c.in-Some.ensures in
     found_other c.args.book.now _ h c.if-id-eq2057.false

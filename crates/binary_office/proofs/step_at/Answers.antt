@@ -10,7 +10,7 @@ rest_at-requires c = let cut = le16_cut c.args.s.now c.args.at (c.in_default.ens
     omega arith
 
 pub overflow_add-at : goal.overflow_add-at
-overflow_add-at c = let there = le16_within c.args.s.now c.args.at _ (c.in-Value.ensures) in
+overflow_add-at c = let there = le16_within c.args.s.now c.args.at _ (c.in-Some.ensures) in
     record { fits = omega arith }
 
 pub rest_at-requires-in_default-le16 : goal.rest_at-requires-in_default-le16
@@ -18,16 +18,16 @@ rest_at-requires-in_default-le16 c = let cut = le16_cut c.args.s.now (c.args.at 
     omega arith
 
 pub overflow_add-at-3 : goal.overflow_add-at-3
-overflow_add-at-3 c = let there = le16_within c.args.s.now (c.args.at + 2) _ (c.in-Value-le16.ensures) in
+overflow_add-at-3 c = let there = le16_within c.args.s.now (c.args.at + 2) _ (c.in-Some-le16.ensures) in
     record { fits = omega arith }
 
 pub overflow_add-at-2 : goal.overflow_add-at-2
 overflow_add-at-2 c = let whole = (overflow_add-at-3 c).fits in record { fits = omega arith }
 
 pub returns-then-at-len : goal.returns-then-at-len
-returns-then-at-len c = step_record c.args.s.now c.args.at _ _ (c.in-Value.ensures)
-    (c.in-Value-le16.ensures) c.if-at-len.true
+returns-then-at-len c = step_record c.args.s.now c.args.at _ _ (c.in-Some.ensures)
+    (c.in-Some-le16.ensures) c.if-at-len.true
 
 pub returns-else-at-len : goal.returns-else-at-len
-returns-else-at-len c = step_past c.args.s.now c.args.at _ _ (c.in-Value.ensures)
-    (c.in-Value-le16.ensures) c.if-at-len.false
+returns-else-at-len c = step_past c.args.s.now c.args.at _ _ (c.in-Some.ensures)
+    (c.in-Some-le16.ensures) c.if-at-len.false

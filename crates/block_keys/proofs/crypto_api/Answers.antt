@@ -1,17 +1,14 @@
 -- `block_keys::crypto_api` meets its contract: what the structure's parse told.
 -- Assumes nothing.
-use mathlib.Core.Path.{sym}
-use Rattle.file_params.specs.Questions.{asked, crypto_api}
-use Rattle.rc4_cryptoapi.specs.Parse.{parsed, header}
-use Rattle.block_keys.specs.Lock.{crypto_api_lock}
-use Rattle.block_keys.proofs.Schemes.{refused_api, read_api}
+use Rattle.std.proofs.Common.{arith}
+use Rattle.std.proofs.lemmas.Grind.{common_steps}
+use Rattle.rc4_cryptoapi.specs.Parse.{parsed}
 use Rattle.block_keys.proofs.crypto_api.Goals as goal
 
-pub returns-in-Refused : goal.returns-in-Refused
+pub returns-in_err-header : goal.returns-in_err-header
 unfolding parsed
-returns-in-Refused c = refused_api (header c.args.structure.now) (crypto_api_lock c.args.structure.now) (asked (crypto_api c.args.structure.now)) _
-    (sym c.in-Refused.ensures)
+returns-in_err-header c = grind (arith, common_steps)
 
-pub returns-in-Header : goal.returns-in-Header
+pub returns : goal.returns
 unfolding parsed
-returns-in-Header c = read_api c.args.structure.now (asked (crypto_api c.args.structure.now)) _ (sym c.in-Header.ensures)
+returns c = grind (arith, common_steps)

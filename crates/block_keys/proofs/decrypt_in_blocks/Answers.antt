@@ -8,6 +8,6 @@ pub returns-then-size-eq0 : goal.returns-then-size-eq0
 returns-then-size-eq0 c = no_blocks c.args.size (block_key c.args.schedule) c.args.src.now c.args.dst.now c.if-size-eq0.true
 
 pub returns : goal.returns
-returns c = all_blocks c.args.size (block_key c.args.schedule) c.args.src.now c.args.dst.now c.if-size-eq0.false _ _ _ _ _ c.least-n.ensures
+returns c = all_blocks c.args.size (block_key c.args.schedule) c.args.src.now c.args.dst.now c.if-size-eq0.false _ _ _ _ _ c.min-n.ensures
     c.decrypt_pairs-blocks.ensures.0 c.decrypt_pairs-blocks.ensures.1
     c.decrypt_rest.ensures.0 c.decrypt_rest.ensures.1

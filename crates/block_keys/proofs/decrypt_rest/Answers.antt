@@ -16,7 +16,7 @@ loop-at-preserved c = let g = c.loop-at.invariant.2 c.loop-at-test.true in
     let o = one_more c.loop-at.block c.args.size in (
       omega arith,
       omega arith,
-      (λ k. ap (λ (m : ℕ). c.loop-at.at + m) (next c.args.size c.args.n c.loop-at.at _ c.least.ensures k) ∙ ap (λ (n : ℕ). n + c.args.size) g ∙ sym o),
+      (λ k. ap (λ (m : ℕ). c.loop-at.at + m) (next c.args.size c.args.n c.loop-at.at _ c.min.ensures k) ∙ ap (λ (n : ℕ). n + c.args.size) g ∙ sym o),
       omega arith,
       omega arith,
       block_more c.args.size (block_key c.args.schedule) c.args.src.now c.args.dst.now c.loop-at.dst _ c.loop-at.block c.loop-at.at g _ _ c.loop-at.invariant.0 (omega arith) (omega arith)

@@ -1,20 +1,21 @@
 -- `directory::ask_sheets` meets its contract: each way out is one answer of the two questions.
 -- Assumes nothing.
-use mathlib.Core.Path.{sym, ◌∙◌}
-use Rattle.directory.proofs.Checks.{found_there, found_nowhere, sheet_refused, bracket_refused, sheets_told}
+use Rattle.std.proofs.Common.{arith}
+use Rattle.std.proofs.lemmas.Grind.{common_steps}
+use Rattle.directory.proofs.Checks.{sheets_counted, sheet_refused, bracket_refused, sheets_told}
 use Rattle.directory.proofs.ask_sheets.Goals as goal
 
-pub returns-in-Offset : goal.returns-in-Offset
-returns-in-Offset c = sheet_refused c.args.stream.now c.args.place _
-    (found_there _ _ (sym c.in-Offset.ensures))
+pub find_unfit-requires : goal.find_unfit-requires
+find_unfit-requires c = sheets_counted c.args.stream.now c.args.place c.args.tally c.requires
 
-pub returns-in-Offset-unpaired : goal.returns-in-Offset-unpaired
-returns-in-Offset-unpaired c = bracket_refused c.args.stream.now c.args.place
-    (found_nowhere _ (sym c.in-Nowhere.ensures)) _
-    (sym c.requires.paired ∙ found_there _ _ (sym c.in-Offset-unpaired.ensures))
+pub returns-in-Some : goal.returns-in-Some
+returns-in-Some c = grind (arith, common_steps, sheet_refused)
 
-pub returns-in-Nowhere-unpaired : goal.returns-in-Nowhere-unpaired
-returns-in-Nowhere-unpaired c = sheets_told c.args.stream.now c.args.place
-    (found_nowhere _ (sym c.in-Nowhere.ensures))
-    (sym c.requires.paired ∙ found_nowhere _ (sym c.in-Nowhere-unpaired.ensures)) _ _
-    c.requires.counted c.sheet_at-start.ensures
+pub returns-in-Some-unpaired : goal.returns-in-Some-unpaired
+returns-in-Some-unpaired c = grind (arith, common_steps, bracket_refused)
+
+pub start_at-requires-clause-counted : goal.start_at-requires-clause-counted
+start_at-requires-clause-counted c = sheets_counted c.args.stream.now c.args.place c.args.tally c.requires
+
+pub returns : goal.returns
+returns c = grind (arith, common_steps, sheets_told)

@@ -1,17 +1,34 @@
 -- `directory::directory` meets its contract: question 4, those of the walk, and those of the sheets, in their order.
 -- Assumes nothing.
-use mathlib.Core.Path.{◌∙◌}
+use mathlib.Core.Path.{◌≡◌, sym, ap, ◌∙◌}
+use Prim.Native.Nat.{ℕ}
+use Rattle.std.specs.Prelude.{Option}
+use Rattle.std.proofs.Common.{arith}
+use Rattle.std.proofs.lemmas.Grind.{common_steps}
+use Rattle.binary_office.specs.Walk.{walk}
+use Rattle.file_params.specs.Questions.{asked, unless, in_order}
+use Rattle.file_params.proofs.Laws.{unless_refused, unless_passed}
+use Rattle.directory.specs.declared.Tally.{Tally}
+use Rattle.directory.specs.Steps.{tally_of}
 use Rattle.directory.proofs.Checks.{too_large, walk_refused, walk_fine}
 use Rattle.directory.proofs.directory.Goals as goal
 
 pub returns-then-stream-gt-LEGACY_STREAM_READ_CAP : goal.returns-then-stream-gt-LEGACY_STREAM_READ_CAP
 returns-then-stream-gt-LEGACY_STREAM_READ_CAP c = too_large c.args.stream.now c.args.place c.if-stream-gt-LEGACY_STREAM_READ_CAP.true
 
-pub returns-in-Refused : goal.returns-in-Refused
-returns-in-Refused c = walk_refused c.args.stream.now c.args.place c.if-stream-gt-LEGACY_STREAM_READ_CAP.false _ c.tally_records-tallied.ensures.ended _
-    c.check_records.ensures _ c.in-Refused.is
+pub returns-in_err-check_records : goal.returns-in_err-check_records
+unfolding tally_of
+returns-in_err-check_records c =
+    let s = c.args.stream.now in
+    let fault : c.tally_records-tally.result.fault ≡ (walk s).fault = ap (λ (t : Tally). t.fault) c.tally_records-tally.ensures in
+    let told = ap (λ (f : Option ℕ). unless tt (asked (in_order f (walk s).records))) (sym fault) ∙ sym c.check_records.ensures ∙ c.in_err-check_records.was in
+    let refused = walk_refused s c.args.place c.if-stream-gt-LEGACY_STREAM_READ_CAP.false _ (unless_refused tt _ _ told) in
+    grind (arith, common_steps, refused)
 
-pub returns-in-Fine : goal.returns-in-Fine
-returns-in-Fine c = c.ask_sheets.ensures
-    ∙ walk_fine c.args.stream.now c.args.place c.if-stream-gt-LEGACY_STREAM_READ_CAP.false _ c.tally_records-tallied.ensures.ended _
-    c.check_records.ensures c.in-Fine.is
+pub returns : goal.returns
+unfolding tally_of
+returns c =
+    let s = c.args.stream.now in
+    let fault : c.tally_records-tally.result.fault ≡ (walk s).fault = ap (λ (t : Tally). t.fault) c.tally_records-tally.ensures in
+    let told = ap (λ (f : Option ℕ). unless tt (asked (in_order f (walk s).records))) (sym fault) ∙ sym c.check_records.ensures ∙ c.in_ok-check_records.was in
+    c.ask_sheets.ensures ∙ walk_fine s c.args.place c.if-stream-gt-LEGACY_STREAM_READ_CAP.false (unless_passed tt _ _ told)

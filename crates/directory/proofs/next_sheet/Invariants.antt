@@ -1,14 +1,10 @@
--- `directory::next_sheet` meets its contract: from each offset on, the BoundSheet8 records are those from the first one on.
+-- `directory::next_sheet` meets its contract: from where the walker is on, the BoundSheet8 records are those from the start of the search on.
 -- Assumes nothing.
 use mathlib.Core.Path.{◌≡◌}
-use Prim.Native.Nat.{◌-◌}
-use lib.ListN.{length}
 use Rattle.binary_office.specs.Walk.{walk_at}
+use Rattle.binary_office.proofs.Records.{On}
 use Rattle.directory.specs.Directory.{bound_sheets}
 use Rattle.directory.proofs.next_sheet.Given as goal
 
-abbrev pub invariant-loop-id : goal.invariant-loop-id
-invariant-loop-id l = bound_sheets (walk_at l.stream l.at).records ≡ bound_sheets (walk_at l.stream l.from).records
-
-abbrev pub decreases-loop-id : goal.decreases-loop-id
-decreases-loop-id l = length l.stream - l.at
+abbrev pub invariant-loop-record : goal.invariant-loop-record
+invariant-loop-record l = On l.stream l.record-iterator × (bound_sheets (walk_at l.stream l.record-iterator.pos).records ≡ bound_sheets (walk_at l.stream l.from).records)

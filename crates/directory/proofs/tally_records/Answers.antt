@@ -1,26 +1,34 @@
--- `directory::tally_records` meets its contract: what was counted before an offset and what is left from there on make the whole count.
+-- `directory::tally_records` meets its contract: what was tallied and what the walker has left make the whole.
 -- Assumes nothing.
-use mathlib.Core.Path.{sym}
-use native.Mathlib.Omega.{arith}
+use Rattle.std.proofs.Common.{arith, ◌≤◌}
 use lib.Dec.{eqb}
-use Rattle.binary_office.proofs.Walks.{record_within}
-use Rattle.directory.proofs.Tallied.{one_at_most, tallied_on, tallied_end, tallied_fault}
+use Rattle.binary_office.proofs.Records.{starts, gave_record}
+use Rattle.directory.proofs.Tallied.{one_at_most, tallied_none, tallied_more, tallied_fits, tallied_all}
 use Rattle.directory.proofs.tally_records.Goals as goal
 
-pub returns-in-End : goal.returns-in-End
-returns-in-End c = tallied_end c.args.stream.now _ _ _ c.loop-offset.invariant (sym c.in-End.ensures)
+pub loop-record-init : goal.loop-record-init
+loop-record-init c = rw (starts c.args.stream 0 _ _ c.into_iter-record-iterator.ensures.into_iter_gives c.biff_records-record-items.ensures)
+    (tallied_none c.args.stream.now)
 
-pub returns-in-Fault : goal.returns-in-Fault
-returns-in-Fault c = tallied_fault c.args.stream.now _ _ _ c.loop-offset.invariant _ (sym c.in-Fault.ensures)
+pub paired-pairing-requires : goal.paired-pairing-requires
+paired-pairing-requires c =
+    let g = gave_record _ _ _ c.in-Some.ensures.steps _ c.in-Ok.is in
+    let fits = tallied_fits c.args.stream.now _ _ _ _ c.loop-record.invariant _ _ g.in_order in
+    let low = fits.1 in
+    omega (arith, c.well_formed)
 
 pub overflow_add-sheets : goal.overflow_add-sheets
-overflow_add-sheets c = let one = one_at_most (eqb c.in-Record.id 0x0085) in
-    omega arith
+overflow_add-sheets c =
+    let g = gave_record _ _ _ c.in-Some.ensures.steps _ c.in-Ok.is in
+    let fits = tallied_fits c.args.stream.now _ _ _ _ c.loop-record.invariant _ _ g.in_order in
+    let few = fits.0 in
+    let one : c.from-sheets.result ≤ 1 = rw c.from-sheets.ensures (one_at_most (eqb c.in-Ok.next.id 0x0085)) in
+    record { fits = omega arith }
 
-pub loop-offset-smaller : goal.loop-offset-smaller
-loop-offset-smaller c = let h = record_within c.args.stream.now c.loop-offset.at _ _ (sym c.in-Record.ensures) in
-    omega arith
+pub loop-record-preserved-in-Ok : goal.loop-record-preserved-in-Ok
+loop-record-preserved-in-Ok c =
+    let g = gave_record _ _ _ c.in-Some.ensures.steps _ c.in-Ok.is in
+    rw (c.from-sheets.ensures, c.paired-pairing.ensures) (tallied_more c.args.stream.now _ _ _ _ c.loop-record.invariant _ _ g.in_order)
 
-pub loop-offset-preserved : goal.loop-offset-preserved
-loop-offset-preserved c = rw (c.sheets_in-sheets.ensures, c.paired-pairing.ensures)
-    (tallied_on c.args.stream.now c.loop-offset.at c.loop-offset.sheets c.loop-offset.pairing c.loop-offset.invariant _ _ (sym c.in-Record.ensures))
+pub returns : goal.returns
+returns c = tallied_all c.args.stream.now _ _ _ _ c.loop-record.invariant c.in-None.ensures.steps.over

@@ -1,12 +1,9 @@
 -- `excel97::copy` meets its contract: one store more a turn.
 -- Assumes nothing.
-use Prim.Native.Nat.{ℕ, ◌-◌, ◌≤◌}
+use Prim.Native.Nat.{ℕ}
 use lib.ListN.{get_or}
 use Rattle.laws.proofs.Written.{Written}
 use Rattle.excel97.proofs.copy.Given as goal
 
 abbrev pub invariant-loop-i : goal.invariant-loop-i
-invariant-loop-i l = (l.from ≤ l.i) × (l.i ≤ l.to) × Written (λ (o : ℕ). get_or l.src o 0) l.from l.i l.initial.dst l.dst
-
-abbrev pub decreases-loop-i : goal.decreases-loop-i
-decreases-loop-i l = l.to - l.i
+invariant-loop-i l = Written (λ (o : ℕ). get_or l.src o 0) l.from l.i l.initial.dst l.dst

@@ -1,15 +1,14 @@
--- `excel97::restore` meets its contract: the records up to the offset have their own headers and clear parts again, and behind them what is left of the stream is put back.
+-- `excel97::restore` meets its contract: the records up to where the walker stands have their own headers and clear parts.
 -- Assumes nothing.
-use Prim.Native.Nat.{ℕ, ◌-◌}
-use lib.ListN.{length, get_or}
+use Prim.Native.Nat.{ℕ}
+use lib.ListN.{get_or}
 use Rattle.laws.proofs.Written.{Written}
-use Rattle.binary_office.specs.Walk.{BiffRecord}
+use Rattle.binary_office.specs.declared.BiffRecord.{BiffRecord}
 use Rattle.excel97.specs.Steps.{through_at}
-use Rattle.excel97.proofs.Records.{Reached}
+use Rattle.excel97.proofs.Records.{Stands}
 use Rattle.excel97.proofs.restore.Given as goal
 
-abbrev pub invariant-loop-id : goal.invariant-loop-id
-invariant-loop-id l = Reached l.stream l.at × Written (through_at l.stream (λ (r : BiffRecord) (o x : ℕ). get_or l.initial.output o 0)) 0 l.at l.initial.output l.output
-
-abbrev pub decreases-loop-id : goal.decreases-loop-id
-decreases-loop-id l = length l.stream - l.at
+abbrev pub invariant-loop-record : goal.invariant-loop-record
+invariant-loop-record l =
+    Stands l.stream l.record-iterator l.rest
+    × Written (through_at l.stream (λ (r : BiffRecord) (o x : ℕ). get_or l.initial.output o 0)) 0 l.rest l.initial.output l.output

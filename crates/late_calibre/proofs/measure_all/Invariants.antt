@@ -1,8 +1,6 @@
--- `late_calibre::measure_all` meets its contract: each turn moves on by a sheet.
--- Assumes nothing.
-use Prim.Native.Nat.{◌-◌}
-use lib.ListN.{length}
+-- `late_calibre::measure_all` ends: each turn takes a sheet and its lengths from what is left.
+use Rattle.std.proofs.Common.{length}
 use Rattle.late_calibre.proofs.measure_all.Given as goal
 
-abbrev pub decreases-loop-at : goal.decreases-loop-at
-decreases-loop-at g l = length l.«data» - l.at
+abbrev pub decreases-loop-sheets : goal.decreases-loop-sheets
+decreases-loop-sheets g l = length l.sheets

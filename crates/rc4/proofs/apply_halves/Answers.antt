@@ -1,23 +1,12 @@
 -- `rc4::apply_halves` meets its contract: both keys' lengths were asked, and the tables are those of the keys.
 -- Assumes nothing.
-use mathlib.Core.Path.{refl, ◌∙◌}
-use native.Mathlib.Omega.{arith}
+use Rattle.std.proofs.Common.{refl, ◌∙◌}
 use Rattle.laws.proofs.Choice.{stop, skip}
 use Rattle.rc4.proofs.Halves.{halves_keyed}
-use Rattle.rc4.proofs.Rearranged.{mixing_rearranged}
 use Rattle.rc4.proofs.apply_halves.Goals as goal
-
-pub apply_both-requires : goal.apply_both-requires
-apply_both-requires c = (
-  rw c.mix_both.ensures.0 (mixing_rearranged c.args.key.now 256 (omega arith)),
-  rw c.mix_both.ensures.1 (mixing_rearranged c.args.other.now 256 (omega arith)),
-)
 
 pub returns-then-not-fits-clause-dst_after : goal.returns-then-not-fits-clause-dst_after
 returns-then-not-fits-clause-dst_after c = skip _ refl refl
-
-pub returns-then-not-fits-2-clause-dst_after : goal.returns-then-not-fits-2-clause-dst_after
-returns-then-not-fits-2-clause-dst_after c = skip _ refl refl
 
 pub returns-clause-dst_after : goal.returns-clause-dst_after
 returns-clause-dst_after c =

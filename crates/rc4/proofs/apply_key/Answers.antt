@@ -1,18 +1,22 @@
--- `rc4::apply_key` meets its contract: the key's length was asked, and the table is that of the key.
+-- `rc4::apply_key` meets its contract: there is a keystream for a key that fits, and its bytes are written.
 -- Assumes nothing.
-use mathlib.Core.Path.{refl, ◌∙◌}
-use native.Mathlib.Omega.{arith}
+use Rattle.std.proofs.Common.{◌≡◌, refl, sym, ap, ◌∙◌, rules, None}
 use Rattle.laws.proofs.Choice.{stop, skip}
-use Rattle.rc4.proofs.Halves.{one_keyed}
-use Rattle.rc4.proofs.Rearranged.{mixing_rearranged}
+use Rattle.rc4.specs.declared.Keystream.{Keystream}
+use Rattle.rc4.specs.Rc4.{enciphered, made}
+use Rattle.rc4.proofs.Table.{some_fits, none_fits}
 use Rattle.rc4.proofs.apply_key.Goals as goal
 
-pub give_one-requires : goal.give_one-requires
-give_one-requires c = (rw c.mix_one.ensures (mixing_rearranged c.args.key.now 256 (omega arith)), omega arith)
+pub returns-in_default-clause-value : goal.returns-in_default-clause-value
+returns-in_default-clause-value c = let e : made c.args.key.now ≡ None = search rules in sym (none_fits _ e)
 
-pub returns-then-not-fits-clause-dst_after : goal.returns-then-not-fits-clause-dst_after
-returns-then-not-fits-clause-dst_after c = skip _ refl refl
+pub returns-in_default-clause-dst_after : goal.returns-in_default-clause-dst_after
+returns-in_default-clause-dst_after c = skip _ refl refl
+
+pub returns-clause-value : goal.returns-clause-value
+returns-clause-value c = sym (some_fits _ _ (sym c.new.ensures ∙ c.in-Some.is)).0
 
 pub returns-clause-dst_after : goal.returns-clause-dst_after
-returns-clause-dst_after c =
-    one_keyed c.args.key.now _ c.args.src.now c.args.dst.now _ _ _ c.mix_one.ensures c.least-n.ensures c.give_one.ensures c.exclusive_or.ensures ∙ stop _ refl
+returns-clause-dst_after c = c.apply.ensures.bytes
+    ∙ ap (λ (k : Keystream). enciphered k c.args.src.now c.args.dst.now) (some_fits _ _ (sym c.new.ensures ∙ c.in-Some.is)).1
+    ∙ stop _ refl

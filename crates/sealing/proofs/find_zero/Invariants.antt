@@ -1,14 +1,10 @@
--- `sealing::find_zero` meets its contract: the stream's zero record is that of the records from the offset on.
+-- `sealing::find_zero` meets its contract: the stream's zero record is that of the records that the walker has left.
 -- Assumes nothing.
 use mathlib.Core.Path.{◌≡◌}
-use Prim.Native.Nat.{◌-◌, ◌≤◌}
-use lib.ListN.{length}
 use Rattle.binary_office.specs.Walk.{walk_at}
+use Rattle.binary_office.proofs.Records.{On}
 use Rattle.sealing.specs.Seal.{zero_record, zero_of}
 use Rattle.sealing.proofs.find_zero.Given as goal
 
-abbrev pub invariant-loop-id : goal.invariant-loop-id
-invariant-loop-id l = (l.at ≤ length l.plain) × (zero_of l.plain ≡ zero_record l.plain (walk_at l.plain l.at).records)
-
-abbrev pub decreases-loop-id : goal.decreases-loop-id
-decreases-loop-id l = length l.plain - l.at
+abbrev pub invariant-loop-record : goal.invariant-loop-record
+invariant-loop-record l = On l.plain l.record-iterator × (zero_of l.plain ≡ zero_record l.plain (walk_at l.plain l.record-iterator.pos).records)

@@ -14,13 +14,13 @@ use Rattle.sealing.proofs.lock_office97.Goals as goal
 
 pub returns : goal.returns
 returns c =
-    let salt_sixteen : length c.args.salt ≡ 16 =
+    let salt_sixteen : length c.args.job.salt ≡ 16 =
     search rules in
-    let s = schedule_of kind.Office97 40 c.args.salt c.args.password.now in
+    let s = schedule_of kind.Office97 40 c.args.job.salt c.args.job.password.now in
     record {
-      locks = locks c.args.plain.now c.args.at 54 (rc4_at s) (office97_body s c.args.salt c.args.verifier) c.args.output.now _ _ _
-          c.requires.0.inside (length_97 s c.args.salt c.args.verifier refl (salt_sixteen)) c.encipher-made.ensures.through c.put.ensures
-          (put_same _ _ _ _ _ (fields_97 s c.args.salt c.args.verifier _ _ c.encipher-made.ensures.verifier_told c.encipher-made.ensures.hash_told refl)
+      locks = locks c.args.job.plain.now c.args.at 54 (rc4_at s) (office97_body s c.args.job.salt c.args.job.verifier) c.args.output.now _ _ _
+          c.requires.0.inside (length_97 s c.args.job.salt c.args.job.verifier refl (salt_sixteen)) c.encipher-made.ensures.through c.put.ensures
+          (put_same _ _ _ _ _ (fields_97 s c.args.job.salt c.args.job.verifier _ _ c.encipher-made.ensures.verifier_told c.encipher-made.ensures.hash_told refl)
           c.put_office97.ensures);
       counted = c.encipher-made.ensures.keys;
       scratch_left = c.encipher-made.ensures.scratch_left;

@@ -1,35 +1,27 @@
--- `sensitive::utf16le_len` meets its contract: the loop's invariant is that the characters up to `at` are passed and their encoding takes `len` bytes,
--- at most two for each byte of the text, so that no sum wraps. The measure is what is left of the text.
+-- `sensitive::utf16le_len` meets its contract: the loop's invariant is that the encoding of the characters that the iterator has given takes `len`
+-- bytes, at most two for each byte of the text, so that no sum wraps.
 -- Assumes nothing.
-use mathlib.Core.Path.{refl, ap}
-use mathlib.Core.List.{[]}
+use mathlib.Core.Path.{ap, ◌∙◌}
 use native.Mathlib.Omega.{arith}
-use Rattle.sensitive.specs.Utf16.{utf16les}
-use Rattle.sensitive.specs.declared.Length.TheVariants.{Bytes}
-use Rattle.sensitive.proofs.Utf16.{spells, count_more}
-use Rattle.sensitive.proofs.Texts.{passed_none, passed_more, passed_on, passed_end, passed_bad}
+use Rattle.std.specs.Prelude.{Some}
+use Rattle.sensitive.proofs.Given.{from_ok, given_all, given_bad, encodes_none, encodes_more}
 use Rattle.sensitive.proofs.utf16le_len.Goals as goal
 
 pub loop-point-init : goal.loop-point-init
-unfolding utf16les
-loop-point-init c = ([], passed_none _, refl)
+loop-point-init c = encodes_none c.into_iter-point-iterator.ensures.into_iter_gives c.new-point-items.ensures.text c.new-point-items.ensures.at
 
 pub loop-point-preserved : goal.loop-point-preserved
-loop-point-preserved c = (_, passed_more _ c.loop-point.invariant.1 c.char_at.ensures _ _ c.in-Point.is, count_more c.loop-point.invariant.0 c.loop-point.invariant.2 (spells _ _ c.utf16le-len.ensures))
+loop-point-preserved c =
+    encodes_more c.loop-point.invariant c.next.ensures.steps (c.in-Some.is ∙ ap Some (from_ok _ _ c.in_ok-ok.ensures.value)) c.utf16le.ensures
 
 pub overflow_add-len : goal.overflow_add-len
-overflow_add-len c = let a = loop-point-preserved c in
-    let w = a.1 in
-    let n = a.2 in
-    omega (arith, c.well_formed)
+overflow_add-len c =
+    let w = loop-point-preserved c in
+    omega (arith, w.given.passed.short, w.given.passed.inside, c.well_formed)
 
-pub loop-point-smaller : goal.loop-point-smaller
-loop-point-smaller c = let w = (loop-point-preserved c).1 in
-    let m = passed_on _ c.loop-point.invariant.1 c.char_at.ensures _ _ c.in-Point.is in
-    omega arith
+pub returns-in_err-ok : goal.returns-in_err-ok
+returns-in_err-ok c =
+    rw (c.from_residual.ensures, given_bad c.loop-point.invariant.given c.next.ensures.steps _ c.in-Some.is c.in_err-ok.ensures.value)
 
-pub returns-in-Malformed : goal.returns-in-Malformed
-returns-in-Malformed c = rw (passed_bad _ c.loop-point.invariant.1 c.char_at.ensures c.in-Malformed.is)
-
-pub returns-in-End : goal.returns-in-End
-returns-in-End c = rw (passed_end _ c.loop-point.invariant.1 c.char_at.ensures c.in-End.is) (ap Bytes c.loop-point.invariant.2)
+pub returns : goal.returns
+returns c = rw (given_all c.loop-point.invariant.given c.next.ensures.steps c.in-None.is) (ap Some c.loop-point.invariant.count)

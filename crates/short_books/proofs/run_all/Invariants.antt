@@ -1,7 +1,6 @@
--- `short_books::run_all` meets its contract: each turn moves on by a case.
--- Assumes nothing.
-use Rattle.std.proofs.Common.{◌-◌, length}
+-- `short_books::run_all` ends: each turn takes a case and its lengths from what is left.
+use Rattle.std.proofs.Common.{length}
 use Rattle.short_books.proofs.run_all.Given as goal
 
-abbrev pub decreases-loop-at : goal.decreases-loop-at
-decreases-loop-at g l = length l.«data» - l.at
+abbrev pub decreases-loop-before : goal.decreases-loop-before
+decreases-loop-before g l = length l.rest

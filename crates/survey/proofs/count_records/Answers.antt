@@ -5,4 +5,4 @@ use Rattle.survey.proofs.count_records.Goals as goal
 
 pub returns : goal.returns
 unfolding tally_of
-returns c = rw c.tally_records-tally.ensures
+returns c = rw c.tally_records-walked.ensures

@@ -1,12 +1,8 @@
 -- `xor_obfuscation::put` meets its contract: after i turns the first i bytes are written.
 -- Assumes nothing.
-use Prim.Native.Nat.{ℕ, ◌+◌, ◌≤◌, ◌-◌}
-use lib.ListN.{get_or}
+use Rattle.std.proofs.Common.{ℕ, ◌+◌, ◌-◌, get_or}
 use Rattle.laws.proofs.Written.{Written}
 use Rattle.xor_obfuscation.proofs.put.Given as goal
 
 abbrev pub invariant-loop-i : goal.invariant-loop-i
-invariant-loop-i l = (l.i ≤ 16) × Written (λ (o : ℕ). get_or l.bytes (o - l.at) 0) l.at (l.at + l.i) l.initial.dst l.dst
-
-abbrev pub decreases-loop-i : goal.decreases-loop-i
-decreases-loop-i l = 16 - l.i
+invariant-loop-i l = Written (λ (o : ℕ). get_or l.b-items (o - l.at) 0) l.at (l.at + l.i) l.initial.dst l.dst

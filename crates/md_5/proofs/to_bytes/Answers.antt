@@ -1,8 +1,0 @@
--- `md_5::to_bytes` meets its contract: the bytes of each word, in order.
--- Assumes nothing.
-use Rattle.md_5.specs.Md5.{output}
-use Rattle.md_5.proofs.to_bytes.Goals as goal
-
-pub returns : goal.returns
-unfolding output
-returns c = rw (c.to_le_bytes-a.ensures, c.to_le_bytes-b.ensures, c.to_le_bytes-c.ensures, c.to_le_bytes-d.ensures)
