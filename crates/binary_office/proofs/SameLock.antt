@@ -1,6 +1,5 @@
 -- Same lock. Equal bytes are one list, whose facts are the same, so that of two books with a FILEPASS the bodies alone decide; and what is true of equality is true of it.
 -- Assumes nothing.
-use lib.Pointwise.{pointwise}
 use Rattle.std.specs.Prelude.{Some, None, Option}
 use mathlib.Core.Path.{ap₂, ◌≡◌, refl, sym, ap, ◌∙◌}
 use mathlib.Core.Bool.{Bool, true, false, ◌&&◌, beq}
@@ -41,14 +40,6 @@ bytes_self (a ∷ x) = rw (eq-eqb a a refl, bytes_self x)
 
 pub equal_bytes : (x y : List ℕ) → x ≡ y → same_bytes x y ≡ true
 equal_bytes x y e = ap (same_bytes x) (sym e) ∙ bytes_self x
-
--- as the code asks it
-pub bytes_asked : (x y : List ℕ) → pointwise eqb x y ≡ same_bytes x y
-unfolding same_bytes
-bytes_asked [] [] = refl
-bytes_asked [] (y ∷ ys) = refl
-bytes_asked (x ∷ xs) [] = refl
-bytes_asked (x ∷ xs) (y ∷ ys) = ap (λ (t : Bool). eqb x y && t) (bytes_asked xs ys)
 
 -- a test that does not hold fails
 refuted : (t : Bool) → (t ≡ true → ⊥) → t ≡ false

@@ -7,7 +7,7 @@ ghost use Rattle.std.specs.Prelude.{◌≡◌, ◌+◌, ◌*◌, ◌^◌, ◌≤
 ghost use Rattle.binary_office.specs.Fields.{le16_at, le32_at};
 ghost use Rattle.binary_office.specs.Walk.{step_at, next_of, next_at, walk, walked_of, never_encrypted, clear_len};
 ghost use Rattle.binary_office.specs.Look.{version_of, bits_of, bits_in, size_of, facts_of, scan_at, found, capped, look};
-ghost use Rattle.binary_office.specs.SameLock.{same_lock};
+ghost use Rattle.binary_office.specs.SameLock.{same_bytes, same_lock};
 
 // What is at an offset of a stream: a record, by its id and length; a fault, by its place; the end.
 #[derive(Clone, Copy, Debug, PartialEq, Eq)]
@@ -318,6 +318,22 @@ pub fn look(stream: &[u8]) -> Verdict
     }
 }
 
+// Whether two slices have the same bytes. Of slices of different lengths none is read, and of others none behind the
+// first that differs: `==` of slices reads several bytes at a time.
+fn same_bytes(a: &[u8], b: &[u8]) -> bool
+    ensures { result ≡ same_bytes a.now b.now }
+{
+    if a.len() != b.len() {
+        return false;
+    }
+    for (i, x) in a.iter().enumerate() {
+        if *x != b[i] {
+            return false;
+        }
+    }
+    true
+}
+
 // Whether two books have the same lock: both are locked, and their FILEPASS bodies are the same up to the cap. The facts
 // that Look reports are then the same.
 pub fn same_lock(a: &[u8], b: &[u8]) -> bool
@@ -331,7 +347,7 @@ pub fn same_lock(a: &[u8], b: &[u8]) -> bool
     let Finding::Filepass(place, size) = find(other) else {
         return false;
     };
-    body_at(book, start, len) == body_at(other, place, size)
+    same_bytes(body_at(book, start, len), body_at(other, place, size))
 }
 
 // The records of a stream, one after the other: the source's iterator, which keeps the borrowed stream, its position in

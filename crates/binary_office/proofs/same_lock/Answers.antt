@@ -3,7 +3,7 @@
 use Rattle.std.proofs.Common.{sym, ap, ◌∙◌}
 use Rattle.binary_office.specs.Look.{found}
 use Rattle.binary_office.proofs.Bodies.{starts_within}
-use Rattle.binary_office.proofs.SameLock.{first_none, second_none, both_found, bytes_asked}
+use Rattle.binary_office.proofs.SameLock.{first_none, second_none, both_found}
 use Rattle.binary_office.proofs.same_lock.Goals as goal
 
 pub returns-in_default : goal.returns-in_default
@@ -20,8 +20,7 @@ body_at-requires-2 c = starts_within c.in-Filepass-find.place c.in-Filepass-find
 
 pub returns : goal.returns
 returns c =
-    c.eq.ensures
-    ∙ bytes_asked c.body_at.result.now c.body_at-2.result.now
+    c.same_bytes.ensures
     ∙ rw (c.body_at.ensures, c.body_at-2.ensures, c.capped-book.ensures, c.capped-other.ensures)
     (both_found c.args.a.now c.args.b.now c.in-Filepass.start c.in-Filepass.len c.in-Filepass-find.place c.in-Filepass-find.size
     (c.in-Filepass.ensures ∙ ap found c.capped-book.ensures) (c.in-Filepass-find.ensures ∙ ap found c.capped-other.ensures))
