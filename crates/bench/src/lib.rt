@@ -10,6 +10,8 @@ ghost use Rattle.xor_obfuscation.specs.Xor.{Transforms};
 ghost use Rattle.xor_obfuscation.specs.declared.Way.TheVariants.{Decrypt};
 ghost use Rattle.binary_office.specs.Walk.{walk};
 
+use rc4::Keystream;
+
 // The SHA-1 digest of a message.
 #[unsafe(no_mangle)]
 pub extern "C" fn bench_sha1(m: &[u8], out: &mut [u8; 20])
@@ -32,7 +34,11 @@ pub extern "C" fn bench_rc4(key: &[u8], src: &[u8], dst: &mut [u8]) -> bool
     ensures value { result ≡ within 5 16 (length key.now) }
     ensures dst_after { dst.new ≡ pick result (enciphered (keyed key.now) src.now dst.old) dst.old }
 {
-    rc4::apply_key(key, src, dst)
+    let Some(keystream) = Keystream::new(key) else {
+        return false;
+    };
+    keystream.apply(src, dst);
+    true
 }
 
 // The halves of src under the keystreams of two keys, into dst; false for a key of no such length, and dst stays as it is.

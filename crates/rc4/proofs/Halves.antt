@@ -3,21 +3,22 @@
 -- Assumes nothing.
 use mathlib.Core.Path.{◌≡◌, refl, ap, ◌∙◌}
 use mathlib.Core.Bool.{Bool, true, false}
-use mathlib.Core.List.{List}
-use Prim.Native.Nat.{ℕ, ◌+◌, ◌-◌, ◌≤◌, ◌<◌}
+use mathlib.Core.List.{List, ◌++◌}
+use Prim.Native.Nat.{ℕ, ◌+◌, ◌-◌, ◌≤◌, ◌<◌, min}
 use native.Mathlib.Nat.{not-suc-le-zero}
 use native.Mathlib.Omega.{arith}
 use lib.Bits.{bit_xor}
 use lib.Dec.{ltb}
-use lib.ListN.{length, get_or, set, length-set}
+use lib.ListN.{length, get_or, set, drop, length-set}
 use lib.Seq.{get_or-set_same, get_or-set_other}
 use borrow.Author.Tests.{lt-ltb, le-ltb}
 use Rattle.rc4.proofs.Table.{table_keyed}
 use Rattle.laws.specs.Choice.{pick}
+use Rattle.laws.specs.Offsets.{tabulate}
 use Rattle.laws.proofs.Choice.{stop, skip, either}
 use Rattle.laws.proofs.Written.{Written, written_all}
 use Rattle.rc4.specs.declared.Keystream.{Keystream}
-use Rattle.rc4.specs.Rc4.{mixing, keyed, byte_from, applied, half, applied_halves, enciphered_halves, AppliesHalves}
+use Rattle.rc4.specs.Rc4.{mixing, keyed, byte_from, applied, enciphered, half, applied_halves, enciphered_halves, AppliesHalves}
 use Rattle.rc4.specs.Steps.{given_halves}
 
 -- an output of which k bytes of each half are written, the halves being h long: they hold f at their offsets, and nothing behind them is changed
@@ -93,6 +94,24 @@ applies_halves a b s d d₁ d₂ h eh v w =
       after = λ n g. w.after n g ∙ v.after n g;
     } in
     record { bytes = written_all (applied_halves a b h s) (h + h) d d₂ fits both ∙ rw eh refl }
+
+-- the keystream's bytes of a key's table, and then exclusive-or those of s
+pub one_keyed : (key t s d d₁ d₂ : List ℕ) (n : ℕ) → t ≡ (mixing key 256).table → n ≡ min (length s) (length d)
+    → Written (byte_from (record { table = t; i = 0; j = 0 })) 0 n d d₁ → Written (λ (o : ℕ). bit_xor (get_or s o 0) (get_or d₁ o 0)) 0 n d₁ d₂
+    → d₂ ≡ enciphered (keyed key) s d
+one_keyed key t s d d₁ d₂ n et en v w =
+    let k : Keystream = record { table = t; i = 0; j = 0 } in
+    let fits : n ≤ length d = omega arith in
+    let both : Written (applied k s) 0 n d d₂ =
+    record {
+      same = w.same ∙ v.same;
+      before = λ o g. absurd (not-suc-le-zero g);
+      inside = λ o g l. w.inside o g l ∙ ap (bit_xor (get_or s o 0)) (v.inside o g l);
+      after = λ o g. w.after o g ∙ v.after o g;
+    } in
+    written_all (applied k s) n d d₂ fits both
+    ∙ ap (λ (m : ℕ). tabulate (applied k s) m ++ drop m d) en
+    ∙ ap (λ (u : Keystream). enciphered u s d) (table_keyed key t et)
 
 -- the tables are those of two keys
 pub halves_keyed : (key other t u s d d' : List ℕ) → t ≡ (mixing key 256).table → u ≡ (mixing other 256).table

@@ -7,7 +7,7 @@ ghost use Rattle.std.specs.Prelude.{◌≡◌, ◌&&◌, ℕ, ◌+◌, ◌%◌, 
 ghost use Rattle.std.specs.Int.Bits.{bit_xor};
 ghost use Rattle.laws.specs.Choice.{pick, within};
 ghost use Rattle.laws.proofs.Written.{Written};
-ghost use Rattle.rc4.specs.Rc4.{identity, mixing, keyed, made, enciphered, Applies, AppliesHalves, enciphered_halves, Rearranged, Rearranged-prop};
+ghost use Rattle.rc4.specs.Rc4.{identity, mixing, keyed, made, byte_from, enciphered, Applies, AppliesHalves, enciphered_halves, Rearranged, Rearranged-prop};
 ghost use Rattle.rc4.specs.KeyIndex.{following_index};
 ghost use Rattle.rc4.specs.Steps.{MixedTo, StepsTo, given_halves};
 
@@ -102,6 +102,17 @@ impl Permutation {
         }
     }
 
+    // Mixes a key into the entries. Kept beside mix_both, which mixes two keys side by side.
+    fn mix_all(&mut self, key: &[u8])
+        requires { (self.old.entries ≡ identity) × (0 < length key.now) }
+        ensures { self.new.entries ≡ (mixing key.now 256).table }
+    {
+        let mut at = unstarted();
+        for i in 0..256 {
+            at = self.mix(key, i, at);
+        }
+    }
+
     // A step of a keystream: j gains entry i, the entries i and j swap, and the entry at the sum of the two is the byte.
     // The entry at the next i is loaded before the two stores, so that it need not wait for them.
     fn step(&mut self, i: usize, at: Stepped) -> Stepped
@@ -129,6 +140,20 @@ impl Permutation {
             j: 0,
             entry: self.entries[1],
             byte: 0,
+        }
+    }
+
+    // Writes the first n bytes of the entries' keystream to dst. Kept beside give_both.
+    fn give(&mut self, n: usize, dst: &mut [u8])
+        requires { n ≤ length dst.old }
+        ensures { Written (byte_from (record { table = self.old.entries; i = 0; j = 0 })) 0 n dst.old dst.new }
+    {
+        let mut at = self.ready();
+        let mut i = 1;
+        for k in 0..n {
+            at = self.step(i, at);
+            dst[k] = at.byte;
+            i = (i + 1) % 256;
         }
     }
 }
@@ -267,10 +292,14 @@ pub fn apply_key(key: &[u8], src: &[u8], dst: &mut [u8]) -> bool
     ensures value { result ≡ within 5 16 (length key.now) }
     ensures dst_after { dst.new ≡ pick result (enciphered (keyed key.now) src.now dst.old) dst.old }
 {
-    let Some(keystream) = Keystream::new(key) else {
+    if !fits(key.len()) {
         return false;
-    };
-    keystream.apply(src, dst);
+    }
+    let n = src.len().min(dst.len());
+    let mut t = Permutation::unmixed();
+    t.mix_all(key);
+    t.give(n, dst);
+    exclusive_or(src, n, dst);
     true
 }
 

@@ -1,22 +1,13 @@
--- `rc4::apply_key` meets its contract: there is a keystream for a key that fits, and its bytes are written.
+-- `rc4::apply_key` meets its contract: the key's length was asked, and the table is that of the key.
 -- Assumes nothing.
-use Rattle.std.proofs.Common.{◌≡◌, refl, sym, ap, ◌∙◌, rules, None}
+use Rattle.std.proofs.Common.{refl, ◌∙◌}
 use Rattle.laws.proofs.Choice.{stop, skip}
-use Rattle.rc4.specs.declared.Keystream.{Keystream}
-use Rattle.rc4.specs.Rc4.{enciphered, made}
-use Rattle.rc4.proofs.Table.{some_fits, none_fits}
+use Rattle.rc4.proofs.Halves.{one_keyed}
 use Rattle.rc4.proofs.apply_key.Goals as goal
 
-pub returns-in_default-clause-value : goal.returns-in_default-clause-value
-returns-in_default-clause-value c = let e : made c.args.key.now ≡ None = search rules in sym (none_fits _ e)
-
-pub returns-in_default-clause-dst_after : goal.returns-in_default-clause-dst_after
-returns-in_default-clause-dst_after c = skip _ refl refl
-
-pub returns-clause-value : goal.returns-clause-value
-returns-clause-value c = sym (some_fits _ _ (sym c.new.ensures ∙ c.in-Some.is)).0
+pub returns-then-not-fits-clause-dst_after : goal.returns-then-not-fits-clause-dst_after
+returns-then-not-fits-clause-dst_after c = skip _ refl refl
 
 pub returns-clause-dst_after : goal.returns-clause-dst_after
-returns-clause-dst_after c = c.apply.ensures.bytes
-    ∙ ap (λ (k : Keystream). enciphered k c.args.src.now c.args.dst.now) (some_fits _ _ (sym c.new.ensures ∙ c.in-Some.is)).1
-    ∙ stop _ refl
+returns-clause-dst_after c =
+    one_keyed c.args.key.now _ c.args.src.now c.args.dst.now _ _ _ c.mix_all.ensures c.min-n.ensures c.give.ensures c.exclusive_or.ensures ∙ stop _ refl
