@@ -1,6 +1,6 @@
 -- `rc4_office97::block_key` meets its contract: the key is the whole digest of the five bytes and the number's four.
 -- Assumes nothing.
-use mathlib.Core.Path.{◌≡◌, ap, ◌∙◌}
+use mathlib.Core.Path.{◌≡◌, refl, ap, ◌∙◌}
 use mathlib.Core.List.{List, ◌++◌, append-nil}
 use Prim.Native.Nat.{ℕ}
 use Rattle.word.specs.Word.{le_bytes}
@@ -15,4 +15,4 @@ whole hash block bytes e = rw (key_sixteen hash block, append-nil (block_key has
 
 pub returns : goal.returns
 returns c = whole c.args.truncated_h1 c.args.block c.digest-bytes.result
-    (c.digest-bytes.ensures ∙ ap md5 (c.joined-m.ensures ∙ ap (λ (b : List ℕ). c.args.truncated_h1 ++ b) c.to_le_bytes.ensures))
+    (c.digest-bytes.ensures ∙ ap md5 (c.joined-m.ensures.whole refl ∙ ap (λ (b : List ℕ). c.args.truncated_h1 ++ b) c.to_le_bytes.ensures))
