@@ -24,8 +24,11 @@ module _ (front buffer rest : List ℕ) (q : rest ≡ drop (length front) buffer
   pub front_held : Held → take (length front) buffer ≡ front
   front_held e = ap (take (length front)) e ∙ take-append_seam front (drop (length front) as_lent)
 
-  length_rest : length rest ≡ length buffer - length front
+  pub length_rest : length rest ≡ length buffer - length front
   length_rest = ap length q ∙ length-drop (length front) buffer
+
+  pub at_rest : (i : ℕ) → get_or rest i 0 ≡ get_or buffer (length front + i) 0
+  at_rest i = ap (λ (l : List ℕ). get_or l i 0) q ∙ get_or-drop (length front) buffer i 0
 
   length_lent : length (drop (length front) as_lent) ≡ length buffer - length front
   length_lent = length-drop (length front) as_lent ∙ ap (λ (n : ℕ). n - length front) (length_tabulate lent_at (length buffer))
