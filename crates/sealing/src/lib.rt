@@ -71,7 +71,7 @@ fn zero_at(plain: &[u8], at: BiffRecord) -> Option<BiffRecord>
 {
     let start = at.at + 4;
     let end = start + (at.len as usize);
-    if (at.id == 0) & all_zero(&plain[start..end]) {
+    if at.id == 0 && all_zero(&plain[start..end]) {
         Some(at)
     } else {
         None

@@ -24,10 +24,10 @@ body_asked s start len =
     let n : start + len - start ≡ len = omega arith in
     ap (λ (k : ℕ). list_all (λ b. eqb b 0) (take k (drop start s))) n ∙ all_zero_list (take len (drop start s))
 
-pub returns-then-at-all_zero : goal.returns-then-at-all_zero
+pub returns-then-all_zero : goal.returns-then-all_zero
 unfolding pick
-returns-then-at-all_zero c = let body = body_asked c.args.plain.now (c.args.at.at + 4) c.args.at.len in grind (arith, common_steps, body)
+returns-then-all_zero c = let body = body_asked c.args.plain.now (c.args.at.at + 4) c.args.at.len in grind (arith, common_steps, body)
 
-pub returns-else-at-all_zero : goal.returns-else-at-all_zero
+pub returns-else-at-eq0 : goal.returns-else-at-eq0
 unfolding pick
-returns-else-at-all_zero c = let body = body_asked c.args.plain.now (c.args.at.at + 4) c.args.at.len in grind (arith, common_steps, body)
+returns-else-at-eq0 c = let body = body_asked c.args.plain.now (c.args.at.at + 4) c.args.at.len in grind (arith, common_steps, body)
